@@ -1,0 +1,23 @@
+-- The code is the definition.
+use borrow.Author.Needs.{needs}
+use Rattle.board.specs.Boards.{withConsole}
+use Rattle.board.proofs.Board.with_console.Statement.{statement}
+use Rattle.board.proofs.Board.with_console.Tie as tie
+
+-- The code is the definition.
+
+cast-i : tie.Need-cast-i
+cast-i c = search needs
+
+mul-x : tie.Need-mul-x
+mul-x c = search needs
+
+element-set-from-x : tie.Need-element-set-from-x
+element-set-from-x c = search needs
+
+returns : tie.Need-returns
+unfolding withConsole
+returns c = search needs
+
+pub with-console-spec : {M : Type 1} → statement M
+with-console-spec = tie.close (tie.spec cast-i mul-x element-set-from-x returns)

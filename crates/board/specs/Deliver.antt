@@ -1,0 +1,90 @@
+-- Deliver (document 01, 'The steps'): one definition for each kind of frame.
+use Prim.Native.Nat.{ℕ}
+use mathlib.Core.Bool.{Bool, cond}
+use mathlib.Core.List.{[], _∷_}
+use lib.Dec.{ltb}
+use Rattle.parts.specs.declared.Tag.{Tag}
+use Rattle.parts.specs.declared.Frame.{Frame}
+use Rattle.parts.specs.declared.Frame.the-variants.{Nothing, Ask, Reply, Put, Ack}
+use Rattle.parts.specs.declared.State.the-variants.{Idle}
+use Rattle.parts.specs.declared.Console.{Console}
+use Rattle.parts.specs.Answered.{size}
+use Rattle.parts.specs.Sizes.{askSize, tellSize}
+use Rattle.parts.specs.Parts.{isAsking, isTelling}
+use Rattle.parts.specs.Changes.{taken, rests, awaits, hears, tells, acked}
+use Rattle.board.specs.declared.Board.{Board}
+use Rattle.board.specs.declared.Outcome.the-variants.{Handed, Heard, Turned, Finished, Discarded}
+use Rattle.board.specs.declared.Answer.{Answer}
+use Rattle.board.specs.Boards.{nodeAt, consoleAt, frameAt, withNode, withConsole, withFrame, withRow}
+use Rattle.board.specs.Answers.{answer, asked}
+use Rattle.board.specs.Questions.{is-well-formed, has-console, has-node, holds-frame, node-is-up, has-next-ts}
+
+-- a frame that goes to the node: 'nothing is delivered to' a node that is down
+unfoldable pub toNode : Board → ℕ → Answer → Answer
+toNode b k a = asked (node-is-up b k ∷ []) b a
+
+-- Ask: 'the cell becomes reply with the node's tag and value. Outcome: handed'
+unfoldable pub onAsk : Board → ℕ → ℕ → Answer
+onAsk b c k = toNode b k (answer Handed (withFrame b c k (Reply (nodeAt b k .tag) (nodeAt b k .value))))
+
+-- Put: the node takes the greater tag. 'The cell becomes ack. Outcome: handed'
+unfoldable pub onPut : Board → ℕ → ℕ → Tag → ℕ → Answer
+onPut b c k t v = toNode b k (answer Handed (withNode (withFrame b c k Ack) k (taken (nodeAt b k) t v)))
+
+-- 'Any other reply or ack .. : the cell empties and nothing else changes. Outcome: discarded'
+unfoldable pub discards : Board → ℕ → ℕ → Answer
+discards b c k = answer Discarded (withFrame b c k Nothing)
+
+-- 'the cell empties', console c becomes x, and 'the outcome is heard'
+unfoldable pub heard : Board → ℕ → ℕ → Console → Answer
+heard b c k x = answer Heard (withConsole (withFrame b c k Nothing) c x)
+
+-- 'the console becomes telling .. all n cells become put with that tag and value'; x is the console with the reply taken in
+unfoldable pub turned : Board → ℕ → Console → Board
+turned b c x = withConsole (withRow b c (Put (tells c x .best) (tells c x .value))) c (tells c x)
+
+-- a reply that is taken in, with which console c is x: 'With fewer than q answers the outcome is heard. At q answers the
+-- console becomes telling .. Outcome: turned'
+unfoldable pub replied : Board → ℕ → ℕ → Console → Answer
+replied b c k x =
+    cond (ltb (size (x .answered)) (askSize (b .setup)))
+    (heard b c k x)
+    (asked (has-next-ts x ∷ []) b (answer Turned (turned b c x)))
+
+-- Reply, 'at an asking console that has no answer yet from this node'
+unfoldable pub onReply : Board → ℕ → ℕ → Tag → ℕ → Answer
+onReply b c k t v =
+    cond (awaits isAsking (consoleAt b c) k)
+    (replied b c k (hears (consoleAt b c) k t v))
+    (discards b c k)
+
+-- an ack that is taken in, with which console c is x: 'Below q: heard. At q the console becomes idle and its own fields
+-- clear; outcome: finished, with the best tag and value it had. Its other cells keep their frames'
+unfoldable pub acknowledged : Board → ℕ → ℕ → Console → Answer
+acknowledged b c k x =
+    cond (ltb (size (x .answered)) (tellSize (b .setup)))
+    (heard b c k x)
+    (answer (Finished (x .best) (x .value)) (withConsole (withFrame b c k Nothing) c (rests Idle x)))
+
+-- Ack, 'at a telling console that has no answer yet from this node'
+unfoldable pub onAck : Board → ℕ → ℕ → Answer
+onAck b c k =
+    cond (awaits isTelling (consoleAt b c) k)
+    (acknowledged b c k (acked (consoleAt b c) k))
+    (discards b c k)
+
+-- by the frame in the cell; an empty cell does not come here, since question 8 refuses it
+unfoldable pub onFrame : Board → ℕ → ℕ → Frame → Answer
+onFrame b c k Nothing = discards b c k
+onFrame b c k Ask = onAsk b c k
+onFrame b c k (Reply t v) = onReply b c k t v
+onFrame b c k (Put t v) = onPut b c k t v
+onFrame b c k Ack = onAck b c k
+
+-- 'Deliver (console, node) takes the frame in that cell'
+unfoldable pub deliver : Board → ℕ → ℕ → Answer
+deliver b c k =
+    asked
+    (is-well-formed b ∷ has-console b c ∷ has-node b k ∷ holds-frame b c k ∷ [])
+    b
+    (onFrame b c k (frameAt b c k))

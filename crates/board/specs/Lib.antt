@@ -1,0 +1,9 @@
+-- The definitions of a board and its steps, in the order in which they build on each other.
+pub mod Boards
+pub mod WellFormed
+pub mod Answers
+pub mod Questions
+pub mod Steps
+pub mod Deliver
+pub mod Runs
+pub mod PRuns

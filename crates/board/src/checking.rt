@@ -1,0 +1,30 @@
+// Question 1.
+ghost use mathlib.Core.Path.{_≡_};
+ghost use Rattle.board.specs.WellFormed.{wellFormed};
+use crate::Board;
+use checks::cells::are_cells_ok;
+use checks::consoles::are_consoles_ok;
+use checks::nodes::are_nodes_ok;
+use checks::ranges::is_setup_ok;
+
+impl Board {
+    // Whether the board is well formed, on any board whatever.
+    pub fn is_well_formed(self) -> bool
+        ensures { λ r. ⌜ r ≡ wellFormed self ⌝ }
+    {
+        let setup = self.setup;
+        if !is_setup_ok(setup) {
+            return false;
+        }
+        let nodes = self.nodes;
+        if !are_nodes_ok(setup, nodes) {
+            return false;
+        }
+        let consoles = self.consoles;
+        if !are_consoles_ok(setup, consoles) {
+            return false;
+        }
+        let cells = self.cells;
+        are_cells_ok(setup, cells)
+    }
+}

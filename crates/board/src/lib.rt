@@ -1,0 +1,44 @@
+// The board: one register copied on n nodes, its m consoles, and every frame in flight between them.
+pub use parts::Cell;
+pub use parts::Console;
+pub use parts::ConsoleId;
+pub use parts::Frame;
+pub use parts::Kind;
+pub use parts::Node;
+pub use parts::NodeId;
+pub use parts::Setup;
+pub use parts::State;
+pub use parts::Tag;
+
+// Document 01's board. Any value of this type may be handed in: one that is not well formed is refused by question 1.
+// The cell of console c and node k is cells[c * 5 + k].
+pub struct Board {
+    pub setup: Setup,
+    pub nodes: [Node; parts::NODES],
+    pub consoles: [Console; parts::CONSOLES],
+    pub cells: [Cell; parts::CELLS],
+}
+
+// Document 01's outcome. Only a finished operation's carries a tag and a value.
+pub enum Outcome {
+    Refused,
+    Done,
+    Handed,
+    Heard,
+    Turned,
+    Finished(Tag, u32),
+    Discarded,
+}
+
+// What a step answers: the outcome, the number of the question that refused it (0: none did), and the next board.
+pub struct Answer {
+    pub outcome: Outcome,
+    pub refusal: u32,
+    pub board: Board,
+}
+
+mod checking;
+mod making;
+mod outcomes;
+mod places;
+pub mod refusals;

@@ -1,0 +1,81 @@
+// The limits of a board, and making one.
+ghost use mathlib.Core.Path.{_≡_};
+ghost use Rattle.board.specs.Boards.{freshBoard};
+ghost use Rattle.board.specs.Steps.{setupOf, smallest, fresh};
+use crate::Answer;
+use crate::Board;
+use crate::Outcome;
+use crate::refusals::CONSOLE_COUNT;
+use crate::refusals::NODE_COUNT;
+use checks::ranges::is_console_count;
+use checks::ranges::is_node_count;
+use parts::CELLS;
+use parts::CONSOLES;
+use parts::Cell;
+use parts::Console;
+use parts::Frame;
+use parts::NODES;
+use parts::Node;
+use parts::Setup;
+use parts::State;
+use parts::Tag;
+
+impl Board {
+    pub const MAX_NODES: u32 = parts::MAX_NODES;
+
+    pub const MAX_CONSOLES: u32 = parts::MAX_CONSOLES;
+
+    pub const MAX_TS: u32 = parts::MAX_TS;
+
+    // A board of n nodes and m consoles on which nothing has happened. Refused with 2 or 3 if there may not be so many;
+    // the board handed back is then the fresh one of one node and one console.
+    pub fn fresh(n: u32, m: u32) -> Answer
+        ensures { λ r. ⌜ r ≡ fresh (setupOf n m) ⌝ }
+    {
+        if !is_node_count(n) {
+            return Answer::refused(NODE_COUNT, Board::smallest());
+        }
+        if !is_console_count(m) {
+            return Answer::refused(CONSOLE_COUNT, Board::smallest());
+        }
+        Answer::accepted(Outcome::Done, Board::made(Setup { n: n, m: m }))
+    }
+
+    // The board that a refused fresh hands back.
+    fn smallest() -> Board
+        ensures { λ r. ⌜ r ≡ freshBoard smallest ⌝ }
+    {
+        Board::made(Setup { n: 1, m: 1 })
+    }
+
+    // The fresh board of a setup.
+    fn made(setup: Setup) -> Board
+        ensures { λ r. ⌜ r ≡ freshBoard setup ⌝ }
+    {
+        let zero = Tag { ts: 0, console: 0 };
+        let node = Node {
+            up: true,
+            tag: zero,
+            value: 0,
+        };
+        let console = Console {
+            state: State::Idle,
+            wanted: 0,
+            answered: 0,
+            best: zero,
+            value: 0,
+        };
+        let cell = Cell {
+            frame: Frame::Nothing,
+        };
+        let nodes = [node; NODES];
+        let consoles = [console; CONSOLES];
+        let cells = [cell; CELLS];
+        Board {
+            setup: setup,
+            nodes: nodes,
+            consoles: consoles,
+            cells: cells,
+        }
+    }
+}

@@ -1,0 +1,80 @@
+// What an outcome says in document 01's numbers, and the two ways to answer.
+ghost use mathlib.Core.Path.{_≡_};
+ghost use Rattle.board.specs.Answers.{outcomeNumber, outcomeTag, outcomeValue, answer, refuse};
+use crate::Answer;
+use crate::Board;
+use crate::Outcome;
+use parts::Tag;
+
+const ZERO: Tag = Tag { ts: 0, console: 0 };
+
+impl Outcome {
+    // The number that an outcome is written as.
+    pub fn number(self) -> u32
+        ensures { λ r. ⌜ r ≡ outcomeNumber self ⌝ }
+    {
+        match self {
+            Outcome::Refused => 0,
+            Outcome::Done => 1,
+            Outcome::Handed => 2,
+            Outcome::Heard => 3,
+            Outcome::Turned => 4,
+            Outcome::Finished(_, _) => 5,
+            Outcome::Discarded => 6,
+        }
+    }
+
+    // The final tag of a finished operation; (0, 0) with any other outcome.
+    pub fn tag(self) -> Tag
+        ensures { λ r. ⌜ r ≡ outcomeTag self ⌝ }
+    {
+        match self {
+            Outcome::Refused => ZERO,
+            Outcome::Done => ZERO,
+            Outcome::Handed => ZERO,
+            Outcome::Heard => ZERO,
+            Outcome::Turned => ZERO,
+            Outcome::Finished(t, _) => t,
+            Outcome::Discarded => ZERO,
+        }
+    }
+
+    // The value of a finished operation; 0 with any other outcome.
+    pub fn value(self) -> u32
+        ensures { λ r. ⌜ r ≡ outcomeValue self ⌝ }
+    {
+        match self {
+            Outcome::Refused => 0,
+            Outcome::Done => 0,
+            Outcome::Handed => 0,
+            Outcome::Heard => 0,
+            Outcome::Turned => 0,
+            Outcome::Finished(_, v) => v,
+            Outcome::Discarded => 0,
+        }
+    }
+}
+
+impl Answer {
+    // A step that was done, with the next board.
+    pub(crate) fn accepted(outcome: Outcome, board: Board) -> Answer
+        ensures { λ r. ⌜ r ≡ answer outcome board ⌝ }
+    {
+        Answer {
+            outcome: outcome,
+            refusal: 0,
+            board: board,
+        }
+    }
+
+    // A step that the question of this number refused, with the board to hand back.
+    pub(crate) fn refused(refusal: u32, board: Board) -> Answer
+        ensures { λ r. ⌜ r ≡ refuse refusal board ⌝ }
+    {
+        Answer {
+            outcome: Outcome::Refused,
+            refusal: refusal,
+            board: board,
+        }
+    }
+}

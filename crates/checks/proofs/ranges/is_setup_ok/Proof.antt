@@ -1,0 +1,24 @@
+-- n is tested, then m.
+use borrow.Author.Needs.{needs}
+use Rattle.parts.proofs.FiniteLaws.{said-no, said-yes}
+use Rattle.checks.specs.Clauses.{setupOk}
+use Rattle.checks.proofs.ranges.is_setup_ok.Statement.{statement}
+use Rattle.checks.proofs.ranges.is_setup_ok.Tie as tie
+
+is-node-count-requires : tie.Need-is-node-count-requires
+is-node-count-requires c κs = search needs
+
+returns : tie.Need-returns
+unfolding setupOk
+returns c = simp (said-no (c .before .is-node-count .ensures) (c .if1 .taken))
+
+is-console-count-requires : tie.Need-is-console-count-requires
+is-console-count-requires c κs = search needs
+
+returns-2 : tie.Need-returns-2
+unfolding setupOk
+returns-2 c = simp (said-yes (c .before .before .is-node-count .ensures) (c .before .if1 .left)) (c .is-console-count .ensures)
+
+pub is-setup-ok-spec : {M : Type 1} → statement M
+is-setup-ok-spec =
+    tie.close (tie.spec is-node-count-requires returns is-console-count-requires returns-2)

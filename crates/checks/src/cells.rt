@@ -1,0 +1,66 @@
+// The clauses on cells.
+ghost use mathlib.Core.Path.{_≡_};
+ghost use Prim.Native.Nat.{_<_};
+ghost use Rattle.parts.specs.Limits.{maxConsoles};
+ghost use Rattle.checks.specs.Clauses.{frameOk, cellOk, rowOk, cellsOk};
+use crate::tags::is_tag_ok;
+use parts::CELLS;
+use parts::Cell;
+use parts::Frame;
+use parts::MAX_CONSOLES;
+use parts::MAX_NODES;
+use parts::Setup;
+
+fn is_frame_ok(setup: Setup, f: Frame) -> bool
+    ensures { λ r. ⌜ r ≡ frameOk setup f ⌝ }
+{
+    match f {
+        Frame::Nothing => true,
+        Frame::Ask => true,
+        Frame::Reply(t, v) => is_tag_ok(setup, t, v),
+        Frame::Put(t, v) => is_tag_ok(setup, t, v),
+        Frame::Ack => true,
+    }
+}
+
+fn is_cell_ok(setup: Setup, c: u32, k: u32, f: Frame) -> bool
+    ensures { λ r. ⌜ r ≡ cellOk setup c k f ⌝ }
+{
+    if c >= setup.m {
+        return f.is_nothing();
+    }
+    if k >= setup.n {
+        return f.is_nothing();
+    }
+    is_frame_ok(setup, f)
+}
+
+// Console c's cells; the caller's loop has c below 8.
+fn is_row_ok(setup: Setup, cells: [Cell; CELLS], c: u32) -> bool
+    requires { ⌜ c < maxConsoles ⌝ }
+    ensures { λ r. ⌜ r ≡ rowOk setup cells c ⌝ }
+{
+    let mut k: u32 = 0;
+    while k < MAX_NODES {
+        let x = cells[(c * MAX_NODES + k) as usize];
+        let f = x.frame;
+        if !is_cell_ok(setup, c, k, f) {
+            return false;
+        }
+        k += 1;
+    }
+    true
+}
+
+pub fn are_cells_ok(setup: Setup, cells: [Cell; CELLS]) -> bool
+    ensures { λ r. ⌜ r ≡ cellsOk setup cells ⌝ }
+{
+    let mut c: u32 = 0;
+    while c < MAX_CONSOLES {
+        if !is_row_ok(setup, cells, c) {
+            return false;
+        }
+        c += 1;
+    }
+    true
+}

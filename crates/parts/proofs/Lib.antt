@@ -1,0 +1,4 @@
+-- Laws of the definitions, which the proofs of functions cite; those stand in the folders beside.
+pub mod FiniteLaws
+pub mod AnsweredLaws
+pub mod PartsLaws
