@@ -62,6 +62,6 @@ abbrev pub _or-refuse_ : Bool → ℕ → Question
 x or-refuse r = record { yes = x; number = r }
 
 -- a step: its questions in their order, the board that a refusal hands back, and what it answers if none refuses
-unfoldable pub asked : List Question → Board → Answer → Answer
-asked [] b a = a
-asked (q ∷ qs) b a = cond (q .yes) (asked qs b a) (refuse (q .number) b)
+unfoldable pub guarded : List Question → Board → Answer → Answer
+guarded [] b a = a
+guarded (q ∷ qs) b a = cond (q .yes) (guarded qs b a) (refuse (q .number) b)

@@ -1,4 +1,4 @@
--- A board's parts, a board with one part changed, and the fresh board. Nothing else writes a board's record.
+-- A board's parts, a board with one part changed, and the fresh board. No step writes a board's record but through these.
 use Prim.Native.Nat.{ℕ, _*_}
 use lib.ListN.{set, replicate}
 use Rattle.parts.specs.declared.Frame.{Frame}

@@ -8,7 +8,7 @@ use Rattle.parts.specs.declared.Frame.{Frame}
 use Rattle.parts.specs.declared.Frame.the-variants.{Nothing, Ask, Reply, Put, Ack}
 use Rattle.parts.specs.declared.State.the-variants.{Idle}
 use Rattle.parts.specs.declared.Console.{Console}
-use Rattle.parts.specs.Answered.{size}
+use Rattle.parts.specs.AnsweredSet.{size}
 use Rattle.parts.specs.Sizes.{askSize, tellSize}
 use Rattle.parts.specs.Parts.{isAsking, isTelling}
 use Rattle.parts.specs.Changes.{taken, rests, awaits, hears, tells, acked}
@@ -16,12 +16,12 @@ use Rattle.board.specs.declared.Board.{Board}
 use Rattle.board.specs.declared.Outcome.the-variants.{Handed, Heard, Turned, Finished, Discarded}
 use Rattle.board.specs.declared.Answer.{Answer}
 use Rattle.board.specs.Boards.{nodeAt, consoleAt, frameAt, withNode, withConsole, withFrame, withRow}
-use Rattle.board.specs.Answers.{answer, asked}
+use Rattle.board.specs.Answers.{answer, guarded}
 use Rattle.board.specs.Questions.{is-well-formed, has-console, has-node, holds-frame, node-is-up, has-next-ts}
 
 -- a frame that goes to the node: 'nothing is delivered to' a node that is down
 unfoldable pub toNode : Board → ℕ → Answer → Answer
-toNode b k a = asked (node-is-up b k ∷ []) b a
+toNode b k a = guarded (node-is-up b k ∷ []) b a
 
 -- Ask: 'the cell becomes reply with the node's tag and value. Outcome: handed'
 unfoldable pub onAsk : Board → ℕ → ℕ → Answer
@@ -49,7 +49,7 @@ unfoldable pub replied : Board → ℕ → ℕ → Console → Answer
 replied b c k x =
     cond (ltb (size (x .answered)) (askSize (b .setup)))
     (heard b c k x)
-    (asked (has-next-ts x ∷ []) b (answer Turned (turned b c x)))
+    (guarded (has-next-ts x ∷ []) b (answer Turned (turned b c x)))
 
 -- Reply, 'at an asking console that has no answer yet from this node'
 unfoldable pub onReply : Board → ℕ → ℕ → Tag → ℕ → Answer
@@ -84,7 +84,7 @@ onFrame b c k Ack = onAck b c k
 -- 'Deliver (console, node) takes the frame in that cell'
 unfoldable pub deliver : Board → ℕ → ℕ → Answer
 deliver b c k =
-    asked
+    guarded
     (is-well-formed b ∷ has-console b c ∷ has-node b k ∷ holds-frame b c k ∷ [])
     b
     (onFrame b c k (frameAt b c k))

@@ -122,6 +122,10 @@ nodeDown k = Take (NodeDown k)
 abbrev ofSize : ℕ → ℕ → Board
 ofSize n m = freshBoard (setupOf n m)
 
+-- a run on three nodes and two consoles
+abbrev onThree : List Line → List Line
+onThree ls = Make 3 2 gives done ∷ ls
+
 -- ---- P1 to P10
 
 p1 : List Line
@@ -151,11 +155,12 @@ p2-steps =
     ∷ []
 
 p2 : List Line
-p2 = p2-steps ++ (NodeOf 1 gives Holds (tag 0 0) 0 ∷ CellOf 1 1 gives Frames (Put (tag 1 1) 7) ∷ [])
+p2 = onThree (p2-steps ++ (NodeOf 1 gives Holds (tag 0 0) 0 ∷ CellOf 1 1 gives Frames (Put (tag 1 1) 7) ∷ []))
 
 p3 : List Line
 p3 =
-    p2-steps
+    onThree
+    (p2-steps
     ++ (read 0 gives done
     ∷ deliver 0 1 gives handed
     ∷ CellOf 0 1 gives Frames (Reply (tag 0 0) 0)
@@ -171,11 +176,13 @@ p3 =
     ∷ deliver 0 1 gives heard
     ∷ deliver 0 2 gives handed
     ∷ deliver 0 2 gives finished (tag 1 1) 7
-    ∷ [])
+    ∷ []))
 
+-- ten deliveries, 3 + 2 + 3 + 2 = 2 (n + q); that no operation takes more is demand 3's bound
 p4 : List Line
 p4 =
-    write 1 7 gives done
+    Make 3 2 gives done
+    ∷ write 1 7 gives done
     ∷ deliver 1 0 gives handed
     ∷ deliver 1 1 gives handed
     ∷ deliver 1 2 gives handed
@@ -190,20 +197,28 @@ p4 =
 
 p5 : List Line
 p5 =
-    read 0 gives done
+    Make 1 1 gives done
+    ∷ read 0 gives done
     ∷ deliver 0 0 gives handed
     ∷ deliver 0 0 gives turned
     ∷ deliver 0 0 gives handed
     ∷ deliver 0 0 gives finished (tag 0 0) 0
     ∷ []
 
--- a writer's asking, by nodes 0 and 1
+-- a writer's asking, by nodes 0 and 1, which both reply (0, 0)
 abbrev asksTwo : ℕ → List Line
-asksTwo c = deliver c 0 gives handed ∷ deliver c 0 gives heard ∷ deliver c 1 gives handed ∷ deliver c 1 gives turned ∷ []
+asksTwo c =
+    deliver c 0 gives handed
+    ∷ CellOf c 0 gives Frames (Reply (tag 0 0) 0)
+    ∷ deliver c 0 gives heard
+    ∷ deliver c 1 gives handed
+    ∷ CellOf c 1 gives Frames (Reply (tag 0 0) 0)
+    ∷ deliver c 1 gives turned
+    ∷ []
 
 p6 : List Line
 p6 =
-    (write 0 5 gives done ∷ write 1 7 gives done ∷ [])
+    onThree (write 0 5 gives done ∷ write 1 7 gives done ∷ [])
     ++ asksTwo 0
     ++ asksTwo 1
     ++ (CellOf 0 0 gives Frames (Put (tag 1 0) 5)
@@ -216,19 +231,16 @@ p6 =
     ∷ [])
 
 p7 : List Line
-p7 = deliver 2 3 gives refused 4 ∷ []
+p7 = onThree (deliver 2 3 gives refused 4 ∷ [])
 
-p8 : List Line
-p8 =
-    read 0 gives done
-    ∷ nodeDown 1 gives done
-    ∷ deliver 0 1 gives refused 9
-    ∷ deliver 0 0 gives handed
-    ∷ nodeDown 0 gives done
-    ∷ deliver 0 0 gives heard
-    ∷ []
+p8-ask : List Line
+p8-ask = onThree (read 0 gives done ∷ nodeDown 1 gives done ∷ deliver 0 1 gives refused 9 ∷ [])
 
--- P9's board: one node and one console, which asks with a write of 7; the reply in its cell has the timestamp t
+p8-reply : List Line
+p8-reply = onThree (read 0 gives done ∷ deliver 0 1 gives handed ∷ nodeDown 1 gives done ∷ deliver 0 1 gives heard ∷ [])
+
+-- P9's board, written down and not reached by a run: one node and one console, which asks with a write of 7; the reply
+-- in its cell has the timestamp t
 abbrev p9-board : ℕ → Board
 p9-board t =
     record {
@@ -239,34 +251,39 @@ p9-board t =
     }
 
 p9-full : List Line
-p9-full = deliver 0 0 gives refused 10 ∷ Whole gives Is (p9-board 4000000000) ∷ []
+p9-full = CellOf 0 0 gives Frames (Reply (tag 4000000000 0) 5) ∷ deliver 0 0 gives refused 10 ∷ Whole gives Is (p9-board 4000000000) ∷ []
 
 p9-last : List Line
-p9-last = deliver 0 0 gives turned ∷ CellOf 0 0 gives Frames (Put (tag 4000000000 0) 7) ∷ []
+p9-last = CellOf 0 0 gives Frames (Reply (tag 3999999999 0) 5) ∷ deliver 0 0 gives turned ∷ CellOf 0 0 gives Frames (Put (tag 4000000000 0) 7) ∷ []
 
 p10-empty : List Line
-p10-empty = p2-steps ++ (deliver 1 0 gives refused 8 ∷ [])
+p10-empty = onThree (p2-steps ++ (CellOf 1 0 gives Frames Nothing ∷ deliver 1 0 gives refused 8 ∷ []))
 
 p10-busy : List Line
-p10-busy = take 8 p2-steps ++ (read 1 gives refused 7 ∷ [])
+p10-busy = onThree (take 8 p2-steps ++ (read 1 gives refused 7 ∷ write 1 9 gives refused 7 ∷ []))
 
 abbrev run : ℕ → Board → List Line → PRun
 run i b ls = record { number = i; start = b; lines = ls }
 
+-- the board before a run has made one
+abbrev blank : Board
+blank = freshBoard smallest
+
 -- the list
 unfoldable pub pRuns : List PRun
-unfolding p1 p2 p3 p4 p5 p6 p7 p8 p9-full p9-last p10-empty p10-busy
+unfolding p1 p2 p3 p4 p5 p6 p7 p8-ask p8-reply p9-full p9-last p10-empty p10-busy
 pRuns =
-    run 1 (freshBoard smallest) p1
-    ∷ run 2 (ofSize 3 2) p2
-    ∷ run 3 (ofSize 3 2) p3
-    ∷ run 4 (ofSize 3 2) p4
-    ∷ run 5 (ofSize 1 1) p5
-    ∷ run 6 (ofSize 3 2) p6
-    ∷ run 7 (ofSize 3 2) p7
-    ∷ run 8 (ofSize 3 2) p8
+    run 1 blank p1
+    ∷ run 2 blank p2
+    ∷ run 3 blank p3
+    ∷ run 4 blank p4
+    ∷ run 5 blank p5
+    ∷ run 6 blank p6
+    ∷ run 7 blank p7
+    ∷ run 8 blank p8-ask
+    ∷ run 8 blank p8-reply
     ∷ run 9 (p9-board 4000000000) p9-full
     ∷ run 9 (p9-board 3999999999) p9-last
-    ∷ run 10 (ofSize 3 2) p10-empty
-    ∷ run 10 (ofSize 3 2) p10-busy
+    ∷ run 10 blank p10-empty
+    ∷ run 10 blank p10-busy
     ∷ []

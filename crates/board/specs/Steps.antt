@@ -8,12 +8,12 @@ use Rattle.parts.specs.declared.Kind.{Kind}
 use Rattle.parts.specs.declared.Kind.the-variants.{Read, Write}
 use Rattle.parts.specs.declared.State.the-variants.{Down}
 use Rattle.parts.specs.declared.Setup.{Setup}
-use Rattle.parts.specs.Changes.{turnedTo, rests, asks}
+use Rattle.parts.specs.Changes.{withUp, rests, asks}
 use Rattle.board.specs.declared.Board.{Board}
 use Rattle.board.specs.declared.Outcome.the-variants.{Done}
 use Rattle.board.specs.declared.Answer.{Answer}
 use Rattle.board.specs.Boards.{nodeAt, consoleAt, withNode, withConsole, withRow, freshBoard}
-use Rattle.board.specs.Answers.{answer, asked}
+use Rattle.board.specs.Answers.{answer, guarded}
 use Rattle.board.specs.Questions.{is-well-formed, has-allowed-nodes, has-allowed-consoles, has-console, has-node, console-is-up, console-is-idle, node-is-up}
 
 -- n nodes and m consoles
@@ -24,10 +24,10 @@ setupOf n m = record { n = n; m = m }
 abbrev pub smallest : Setup
 smallest = setupOf 1 1
 
--- 'Fresh takes n and m'
+-- 'Fresh takes n and m'; it names no outcome, and so 'gives done'
 unfoldable pub fresh : Setup → Answer
 fresh σ =
-    asked
+    guarded
     (has-allowed-nodes (σ .n) ∷ has-allowed-consoles (σ .m) ∷ [])
     (freshBoard smallest)
     (answer Done (freshBoard σ))
@@ -39,7 +39,7 @@ begun b c w v = withConsole (withRow b c Ask) c (asks w v (consoleAt b c))
 -- a begin of either kind; v is the wanted value
 unfoldable pub begin : Board → ℕ → Kind → ℕ → Answer
 begin b c w v =
-    asked
+    guarded
     (is-well-formed b ∷ has-console b c ∷ console-is-up b c ∷ console-is-idle b c ∷ [])
     b
     (answer Done (begun b c w v))
@@ -55,15 +55,15 @@ beginWrite b c v = begin b c Write v
 -- 'Node down (node): the node keeps tag and value, and nothing is delivered to it' (question 9)
 unfoldable pub nodeDown : Board → ℕ → Answer
 nodeDown b k =
-    asked
+    guarded
     (is-well-formed b ∷ has-node b k ∷ node-is-up b k ∷ [])
     b
-    (answer Done (withNode b k (turnedTo false (nodeAt b k))))
+    (answer Done (withNode b k (withUp false (nodeAt b k))))
 
 -- 'Console down (console): down for good, its operation gone, its cells as they are'
 unfoldable pub consoleDown : Board → ℕ → Answer
 consoleDown b c =
-    asked
+    guarded
     (is-well-formed b ∷ has-console b c ∷ console-is-up b c ∷ [])
     b
     (answer Done (withConsole b c (rests Down (consoleAt b c))))

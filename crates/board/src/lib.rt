@@ -14,8 +14,8 @@ pub use parts::Tag;
 // The cell of console c and node k is cells[c * 5 + k].
 pub struct Board {
     pub setup: Setup,
-    pub nodes: [Node; parts::NODES],
-    pub consoles: [Console; parts::CONSOLES],
+    pub nodes: [Node; Board::MAX_NODES as usize],
+    pub consoles: [Console; Board::MAX_CONSOLES as usize],
     pub cells: [Cell; parts::CELLS],
 }
 

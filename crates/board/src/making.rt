@@ -5,8 +5,8 @@ ghost use Rattle.board.specs.Steps.{setupOf, smallest, fresh};
 use crate::Answer;
 use crate::Board;
 use crate::Outcome;
-use crate::refusals::CONSOLE_COUNT;
-use crate::refusals::NODE_COUNT;
+use crate::refusals::BAD_CONSOLE_COUNT;
+use crate::refusals::BAD_NODE_COUNT;
 use checks::ranges::is_console_count;
 use checks::ranges::is_node_count;
 use parts::CELLS;
@@ -27,16 +27,16 @@ impl Board {
 
     pub const MAX_TS: u32 = parts::MAX_TS;
 
-    // A board of n nodes and m consoles on which nothing has happened. Refused with 2 or 3 if there may not be so many;
+    // A board of n nodes and m consoles on which nothing has happened. Refused with 2 or 3 if n or m is out of range;
     // the board handed back is then the fresh one of one node and one console.
     pub fn fresh(n: u32, m: u32) -> Answer
         ensures { λ r. ⌜ r ≡ fresh (setupOf n m) ⌝ }
     {
         if !is_node_count(n) {
-            return Answer::refused(NODE_COUNT, Board::smallest());
+            return Answer::refused(BAD_NODE_COUNT, Board::smallest());
         }
         if !is_console_count(m) {
-            return Answer::refused(CONSOLE_COUNT, Board::smallest());
+            return Answer::refused(BAD_CONSOLE_COUNT, Board::smallest());
         }
         Answer::accepted(Outcome::Done, Board::made(Setup { n: n, m: m }))
     }

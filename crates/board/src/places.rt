@@ -1,5 +1,5 @@
-// Reading and replacing a board's parts. The steps call these with numbers that they have checked against m and n,
-// which question 1 has found to be at most 8 and 5.
+// Reading and replacing a board's parts. These are for the steps, which have checked the numbers against m and n, and by
+// question 1 found those to be at most 8 and 5.
 ghost use mathlib.Core.Path.{_≡_};
 ghost use Prim.Native.Nat.{_<_, _≤_};
 ghost use Rattle.parts.specs.Limits.{maxNodes, maxConsoles};
@@ -28,8 +28,8 @@ impl Board {
         requires { ⌜ c .0 < maxConsoles ⌝ }
         ensures { λ r. ⌜ r ≡ consoleAt self (c .0) ⌝ }
     {
-        let i = c.0 as usize;
-        self.consoles[i]
+        let at = c.0 as usize;
+        self.consoles[at]
     }
 
     // The frame in the cell of console c and node k.

@@ -16,7 +16,7 @@ use Rattle.parts.specs.declared.Console.{Console}
 use Rattle.parts.specs.declared.Setup.{Setup}
 use Rattle.parts.specs.Finite.{_implies_, every}
 use Rattle.parts.specs.Limits.{maxNodes, maxConsoles, maxTs}
-use Rattle.parts.specs.Answered.{size, onlyBelow}
+use Rattle.parts.specs.AnsweredSet.{size, onlyBelow}
 use Rattle.parts.specs.Sizes.{askSize, tellSize}
 use Rattle.parts.specs.Parts.{isNothing, isIdle, nodeIn, consoleIn, frameIn}
 

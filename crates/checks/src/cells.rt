@@ -6,9 +6,11 @@ ghost use Rattle.checks.specs.Clauses.{frameOk, cellOk, rowOk, cellsOk};
 use crate::tags::is_tag_ok;
 use parts::CELLS;
 use parts::Cell;
+use parts::ConsoleId;
 use parts::Frame;
 use parts::MAX_CONSOLES;
 use parts::MAX_NODES;
+use parts::NodeId;
 use parts::Setup;
 
 fn is_frame_ok(setup: Setup, f: Frame) -> bool
@@ -23,28 +25,28 @@ fn is_frame_ok(setup: Setup, f: Frame) -> bool
     }
 }
 
-fn is_cell_ok(setup: Setup, c: u32, k: u32, f: Frame) -> bool
-    ensures { λ r. ⌜ r ≡ cellOk setup c k f ⌝ }
+fn is_cell_ok(setup: Setup, c: ConsoleId, k: NodeId, f: Frame) -> bool
+    ensures { λ r. ⌜ r ≡ cellOk setup (c .0) (k .0) f ⌝ }
 {
-    if c >= setup.m {
+    if c.0 >= setup.m {
         return f.is_nothing();
     }
-    if k >= setup.n {
+    if k.0 >= setup.n {
         return f.is_nothing();
     }
     is_frame_ok(setup, f)
 }
 
 // Console c's cells; the caller's loop has c below 8.
-fn is_row_ok(setup: Setup, cells: [Cell; CELLS], c: u32) -> bool
-    requires { ⌜ c < maxConsoles ⌝ }
-    ensures { λ r. ⌜ r ≡ rowOk setup cells c ⌝ }
+fn is_row_ok(setup: Setup, cells: [Cell; CELLS], c: ConsoleId) -> bool
+    requires { ⌜ c .0 < maxConsoles ⌝ }
+    ensures { λ r. ⌜ r ≡ rowOk setup cells (c .0) ⌝ }
 {
     let mut k: u32 = 0;
     while k < MAX_NODES {
-        let x = cells[(c * MAX_NODES + k) as usize];
+        let x = cells[(c.0 * MAX_NODES + k) as usize];
         let f = x.frame;
-        if !is_cell_ok(setup, c, k, f) {
+        if !is_cell_ok(setup, c, NodeId(k), f) {
             return false;
         }
         k += 1;
@@ -57,7 +59,7 @@ pub fn are_cells_ok(setup: Setup, cells: [Cell; CELLS]) -> bool
 {
     let mut c: u32 = 0;
     while c < MAX_CONSOLES {
-        if !is_row_ok(setup, cells, c) {
+        if !is_row_ok(setup, cells, ConsoleId(c)) {
             return false;
         }
         c += 1;

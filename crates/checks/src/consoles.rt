@@ -5,6 +5,7 @@ use crate::tags::is_tag_ok;
 use crate::tags::is_zero;
 use parts::CONSOLES;
 use parts::Console;
+use parts::ConsoleId;
 use parts::Kind;
 use parts::MAX_CONSOLES;
 use parts::Setup;
@@ -66,11 +67,11 @@ fn is_state_ok(setup: Setup, x: Console, s: State) -> bool
     }
 }
 
-fn is_console_ok(setup: Setup, c: u32, x: Console) -> bool
-    ensures { λ r. ⌜ r ≡ consoleOk setup c x ⌝ }
+fn is_console_ok(setup: Setup, c: ConsoleId, x: Console) -> bool
+    ensures { λ r. ⌜ r ≡ consoleOk setup (c .0) x ⌝ }
 {
     let s = x.state;
-    if c < setup.m {
+    if c.0 < setup.m {
         if !is_tag_ok(setup, x.best, x.value) {
             return false;
         }
@@ -88,7 +89,7 @@ pub fn are_consoles_ok(setup: Setup, consoles: [Console; CONSOLES]) -> bool
     let mut c: u32 = 0;
     while c < MAX_CONSOLES {
         let x = consoles[c as usize];
-        if !is_console_ok(setup, c, x) {
+        if !is_console_ok(setup, ConsoleId(c), x) {
             return false;
         }
         c += 1;

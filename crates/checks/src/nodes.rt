@@ -6,12 +6,13 @@ use crate::tags::is_zero;
 use parts::MAX_NODES;
 use parts::NODES;
 use parts::Node;
+use parts::NodeId;
 use parts::Setup;
 
-fn is_node_ok(setup: Setup, k: u32, x: Node) -> bool
-    ensures { λ r. ⌜ r ≡ nodeOk setup k x ⌝ }
+fn is_node_ok(setup: Setup, k: NodeId, x: Node) -> bool
+    ensures { λ r. ⌜ r ≡ nodeOk setup (k .0) x ⌝ }
 {
-    if k < setup.n {
+    if k.0 < setup.n {
         return is_tag_ok(setup, x.tag, x.value);
     }
     if !x.up {
@@ -26,7 +27,7 @@ pub fn are_nodes_ok(setup: Setup, nodes: [Node; NODES]) -> bool
     let mut k: u32 = 0;
     while k < MAX_NODES {
         let x = nodes[k as usize];
-        if !is_node_ok(setup, k, x) {
+        if !is_node_ok(setup, NodeId(k), x) {
             return false;
         }
         k += 1;

@@ -9,7 +9,7 @@ use lib.Dec.{eqb, lit<}
 use lib.Bits.{bitOr}
 use lib.Count.{ones, onesIn}
 use Rattle.parts.specs.Finite.{every, count}
-use Rattle.parts.specs.Answered.{member, insert, size}
+use Rattle.parts.specs.AnsweredSet.{member, insert, size}
 use Rattle.parts.proofs.FiniteLaws.{every-at}
 
 -- the count of ones is the size of the set

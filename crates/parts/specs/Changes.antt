@@ -1,5 +1,5 @@
--- How the steps change a node and a console (document 01, 'The steps'). Each change is a function of the part as it was,
--- so that what it does not name stays.
+-- How the steps change a node and a console (document 01, 'The steps'). Each is a function of the part as it was,
+-- so that a field that is to stay can stay.
 use Prim.Native.Nat.{ℕ, _+_}
 use mathlib.Core.Bool.{Bool, cond, not, _&&_}
 use Rattle.parts.specs.declared.Tag.{Tag}
@@ -9,14 +9,14 @@ use Rattle.parts.specs.declared.State.{State}
 use Rattle.parts.specs.declared.State.the-variants.{Idle, Asking, Telling, Down}
 use Rattle.parts.specs.declared.Console.{Console}
 use Rattle.parts.specs.Tags.{zeroTag, greater}
-use Rattle.parts.specs.Answered.{member, insert}
+use Rattle.parts.specs.AnsweredSet.{member, insert}
 use Rattle.parts.specs.Parts.{writes, toTelling}
 
 -- ---- nodes
 
 -- up or down, 'the node keeps tag and value'
-unfoldable pub turnedTo : Bool → Node → Node
-turnedTo u x = record { up = u; tag = x .tag; value = x .value }
+unfoldable pub withUp : Bool → Node → Node
+withUp u x = record { up = u; tag = x .tag; value = x .value }
 
 -- Put: 'if the put's tag is greater than the node's, the node takes tag and value; otherwise it keeps its own'
 unfoldable pub taken : Node → Tag → ℕ → Node

@@ -1,5 +1,5 @@
 -- Tests and counts over the numbers below n, and 'implies' between tests.
--- The other definitions are written in these; their laws are in proofs/Finite.antt.
+-- The other definitions are written in these; their laws are in proofs/FiniteLaws.antt.
 use Prim.Native.Nat.{ℕ, zero, suc, _+_}
 use mathlib.Core.Bool.{Bool, true, false, _&&_}
 

@@ -2,7 +2,7 @@
 pub mod Finite
 pub mod Limits
 pub mod Tags
-pub mod Answered
+pub mod AnsweredSet
 pub mod Sizes
 pub mod Parts
 pub mod Changes

@@ -58,6 +58,13 @@ isTelling (Asking w) = false
 isTelling (Telling w) = true
 isTelling Down = false
 
+-- 'Asking and telling, together "waiting"'
+abbrev pub isWaiting : State → Bool
+isWaiting Idle = false
+isWaiting (Asking w) = true
+isWaiting (Telling w) = true
+isWaiting Down = false
+
 -- a console is up unless it is down
 abbrev pub isUp : State → Bool
 isUp Idle = true

@@ -1,7 +1,7 @@
 // The set of nodes that have answered: one bit for each node of a byte.
 ghost use mathlib.Core.Path.{_≡_};
 ghost use Prim.Native.Nat.{_<_, _^_};
-ghost use Rattle.parts.specs.Answered.{member, insert, size, onlyBelow};
+ghost use Rattle.parts.specs.AnsweredSet.{member, insert, size, onlyBelow};
 use crate::NodeId;
 
 // The set of node k alone. The functions below see that k is a bit of a byte.
@@ -12,7 +12,7 @@ fn bit(k: u32) -> u8
     1 << k
 }
 
-// Whether node k is in the set. A step calls it with a node number that it has found to be below n.
+// Whether node k is in the set. For the board's steps, which have found the node number to be below n.
 pub fn is_member(s: u8, k: NodeId) -> bool
     requires { ⌜ k .0 < 8 ⌝ }
     ensures { λ r. ⌜ r ≡ member s (k .0) ⌝ }
@@ -21,7 +21,7 @@ pub fn is_member(s: u8, k: NodeId) -> bool
     (s >> i) % 2 == 1
 }
 
-// The set with node k in it. A step calls it with a node number that it has found to be below n.
+// The set with node k in it. For the board's steps, which have found the node number to be below n.
 pub fn with_member(s: u8, k: NodeId) -> u8
     requires { ⌜ k .0 < 8 ⌝ }
     ensures { λ r. ⌜ r ≡ insert s (k .0) ⌝ }

@@ -1,5 +1,6 @@
 // The cells of a board: reading one, replacing one, and sending one frame to all n nodes of a console.
-// Steps call these with a console and a node number that they have found to be below m and n.
+// They are for the board's steps, which have found the console and the node number to be below m and n, and by question 1
+// n to be at most 5.
 ghost use mathlib.Core.Path.{_≡_};
 ghost use Prim.Native.Nat.{_<_, _≤_};
 ghost use Rattle.parts.specs.Limits.{maxNodes, maxConsoles};

@@ -1,4 +1,4 @@
-// The nodes of a board: reading one. A step calls it with a node number that it has found to be below n.
+// The nodes of a board: reading one. It is for the board's steps, which have found the node number to be below n.
 ghost use mathlib.Core.Path.{_≡_};
 ghost use Prim.Native.Nat.{_<_};
 ghost use Rattle.parts.specs.Limits.{maxNodes};

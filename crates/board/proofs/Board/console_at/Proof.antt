@@ -7,8 +7,8 @@ use Rattle.board.proofs.Board.console_at.Tie as tie
 
 -- The code is the definition.
 
-cast-i : tie.Need-cast-i
-cast-i c = search needs
+cast-at : tie.Need-cast-at
+cast-at c = search needs
 
 mul-result : tie.Need-mul-result
 mul-result c = search needs
@@ -21,4 +21,4 @@ unfolding consoleAt consoleIn
 returns c = search needs
 
 pub console-at-spec : {M : Type 1} → statement M
-console-at-spec = tie.close (tie.spec cast-i mul-result element-copy-out-result returns)
+console-at-spec = tie.close (tie.spec cast-at mul-result element-copy-out-result returns)

@@ -1,7 +1,7 @@
 -- The two questions in their order, then the board.
 use mathlib.Core.Path.{sym, ap, _∙_}
 use borrow.Author.Needs.{needs}
-use Rattle.board.proofs.AnswersLaws.{asked-no, asked-yes, asked-end}
+use Rattle.board.proofs.AnswersLaws.{guarded-no, guarded-yes, guarded-end}
 use Rattle.board.specs.Answers.{answer, refuse}
 use Rattle.board.specs.Steps.{fresh}
 use Rattle.board.specs.declared.Outcome.the-variants.{Done}
@@ -20,7 +20,7 @@ refused-requires c κs = search needs
 
 returns : tie.Need-returns
 unfolding fresh
-returns c = c .refused .ensures ∙ ap (refuse 2) (c .before .smallest .ensures) ∙ sym (asked-no _ _ _ _ (said-no (c .before .before .before .is-node-count .ensures) (c .before .before .if1 .taken)))
+returns c = c .refused .ensures ∙ ap (refuse 2) (c .before .smallest .ensures) ∙ sym (guarded-no _ _ _ _ (said-no (c .before .before .before .is-node-count .ensures) (c .before .before .if1 .taken)))
 
 is-console-count-requires : tie.Need-is-console-count-requires
 is-console-count-requires c κs = search needs
@@ -33,7 +33,7 @@ refused-requires-2 c κs = search needs
 
 returns-2 : tie.Need-returns-2
 unfolding fresh
-returns-2 c = c .refused2 .ensures ∙ ap (refuse 3) (c .before .smallest2 .ensures) ∙ sym (asked-yes _ _ _ _ (said-yes (c .before .before .before .before .before .is-node-count .ensures) (c .before .before .before .before .if1 .left)) ∙ asked-no _ _ _ _ (said-no (c .before .before .before .is-console-count .ensures) (c .before .before .if2 .taken)))
+returns-2 c = c .refused2 .ensures ∙ ap (refuse 3) (c .before .smallest2 .ensures) ∙ sym (guarded-yes _ _ _ _ (said-yes (c .before .before .before .before .before .is-node-count .ensures) (c .before .before .before .before .if1 .left)) ∙ guarded-no _ _ _ _ (said-no (c .before .before .before .is-console-count .ensures) (c .before .before .if2 .taken)))
 
 made-requires : tie.Need-made-requires
 made-requires c κs = search needs
@@ -43,7 +43,7 @@ accepted-requires c κs = search needs
 
 returns-3 : tie.Need-returns-3
 unfolding fresh
-returns-3 c = c .accepted .ensures ∙ ap (answer Done) (c .before .made .ensures) ∙ sym (asked-yes _ _ _ _ (said-yes (c .before .before .before .before .before .is-node-count .ensures) (c .before .before .before .before .if1 .left)) ∙ asked-yes _ _ _ _ (said-yes (c .before .before .before .is-console-count .ensures) (c .before .before .if2 .left)) ∙ asked-end _ _)
+returns-3 c = c .accepted .ensures ∙ ap (answer Done) (c .before .made .ensures) ∙ sym (guarded-yes _ _ _ _ (said-yes (c .before .before .before .before .before .is-node-count .ensures) (c .before .before .before .before .if1 .left)) ∙ guarded-yes _ _ _ _ (said-yes (c .before .before .before .is-console-count .ensures) (c .before .before .if2 .left)) ∙ guarded-end _ _)
 
 pub fresh-spec : {M : Type 1} → statement M
 fresh-spec =

@@ -17,14 +17,14 @@ is-nothing-requires-2 c κs = search needs
 
 returns-2 : tie.Need-returns-2
 unfolding cellOk
-returns-2 c = simp (lt-ltb _ _ (c .before .before .before .if1 .left), le-ltb _ _ (c .before .if2 .taken)) (c .is-nothing2 .ensures)
+returns-2 c = simp (lt-ltb _ _ (c .before .before .before .before .if1 .left), le-ltb _ _ (c .before .if2 .taken)) (c .is-nothing2 .ensures)
 
 is-frame-ok-requires : tie.Need-is-frame-ok-requires
 is-frame-ok-requires c κs = search needs
 
 returns-3 : tie.Need-returns-3
 unfolding cellOk
-returns-3 c = simp (lt-ltb _ _ (c .before .before .before .if1 .left), lt-ltb _ _ (c .before .if2 .left)) (c .is-frame-ok .ensures)
+returns-3 c = simp (lt-ltb _ _ (c .before .before .before .before .if1 .left), lt-ltb _ _ (c .before .if2 .left)) (c .is-frame-ok .ensures)
 
 pub is-cell-ok-spec : {M : Type 1} → statement M
 is-cell-ok-spec =

@@ -12,7 +12,7 @@ use Rattle.checks.proofs.cells.is_row_ok.Statement.{statement}
 use Rattle.checks.proofs.cells.is_row_ok.Tie as tie
 
 abbrev Inv-loop : tie.InvT-loop
-Inv-loop setup c cells k₀ k = (k ≤ maxNodes) × (every k (λ k. cellOk setup c k (frameIn cells c k)) ≡ true)
+Inv-loop setup c cells k₀ k = (k ≤ maxNodes) × (every k (λ k. cellOk setup (c .0) k (frameIn cells (c .0) k)) ≡ true)
 
 abbrev μ-loop : tie.MeasureT-loop
 μ-loop setup c cells k₀ k = maxNodes - k
@@ -40,7 +40,7 @@ is-cell-ok-requires c κs = search needs
 
 returns : tie.Need-returns Inv-loop μ-loop
 unfolding rowOk frameIn place
-returns c = sym (every-fails _ _ _ (c .before .before .before .loop-test .taken) (said-no (c .before .is-cell-ok .ensures) (c .if1 .taken)))
+returns c = sym (every-fails _ _ _ (c .before .before .before .before .loop-test .taken) (said-no (c .before .is-cell-ok .ensures) (c .if1 .taken)))
 
 add-k : tie.Need-add-k Inv-loop μ-loop
 add-k c = search needs
@@ -50,7 +50,7 @@ loop-less c = search needs
 
 loop-again : tie.Need-loop-again Inv-loop μ-loop
 unfolding frameIn place
-loop-again c = (search needs, every-more _ _ (c .before .before .before .before .loop .inv .1) (said-yes (c .before .is-cell-ok .ensures) (c .if1 .left)))
+loop-again c = (search needs, every-more _ _ (c .before .before .before .before .before .loop .inv .1) (said-yes (c .before .is-cell-ok .ensures) (c .if1 .left)))
 
 returns-2 : tie.Need-returns-2 Inv-loop μ-loop
 unfolding rowOk

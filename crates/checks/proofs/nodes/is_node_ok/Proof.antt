@@ -14,14 +14,14 @@ returns c = simp (lt-ltb _ _ (c .before .if1 .taken)) (c .is-tag-ok .ensures)
 
 returns-2 : tie.Need-returns-2
 unfolding nodeOk
-returns-2 c = simp (le-ltb _ _ (c .before .before .if1 .left), not-true (c .before .before .before .before .args .x .up) (c .if2 .taken))
+returns-2 c = simp (le-ltb _ _ (c .before .before .if1 .left), not-true (c .before .before .before .before .before .args .x .up) (c .if2 .taken))
 
 is-zero-requires : tie.Need-is-zero-requires
 is-zero-requires c κs = search needs
 
 returns-3 : tie.Need-returns-3
 unfolding nodeOk
-returns-3 c = simp (le-ltb _ _ (c .before .before .before .if1 .left), not-false (c .before .before .before .before .before .args .x .up) (c .before .if2 .left)) (c .is-zero .ensures)
+returns-3 c = simp (le-ltb _ _ (c .before .before .before .if1 .left), not-false (c .before .before .before .before .before .before .args .x .up) (c .before .if2 .left)) (c .is-zero .ensures)
 
 pub is-node-ok-spec : {M : Type 1} → statement M
 is-node-ok-spec =

@@ -1,6 +1,6 @@
 -- The shift and the remainder are the definition's quotient and remainder.
 use borrow.Author.Needs.{needs}
-use Rattle.parts.specs.Answered.{member}
+use Rattle.parts.specs.AnsweredSet.{member}
 use Rattle.parts.proofs.answered.is_member.Statement.{statement}
 use Rattle.parts.proofs.answered.is_member.Tie as tie
 

@@ -3,7 +3,7 @@ use mathlib.Core.Path.{sym}
 use borrow.Author.Needs.{needs}
 use borrow.Author.Tests.{lt-ltb}
 use Rattle.parts.proofs.AnsweredLaws.{byte-below}
-use Rattle.parts.specs.Answered.{onlyBelow}
+use Rattle.parts.specs.AnsweredSet.{onlyBelow}
 use Rattle.parts.proofs.answered.is_only_below.Statement.{statement}
 use Rattle.parts.proofs.answered.is_only_below.Tie as tie
 
