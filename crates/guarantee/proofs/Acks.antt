@@ -1,0 +1,97 @@
+-- An ack is taken in by a telling console: heard below the telling size, and at it the operation is finished.
+use Prim.Native.Nat.{ℕ, _+_, _≤_, _<_}
+use mathlib.Core.Bool.{true, false}
+use mathlib.Core.Path.{refl, ap, _≡_}
+use native.Mathlib.Omega.{arith}
+use Rattle.parts.specs.AnsweredSet.{insert, member, size}
+use Rattle.parts.specs.Changes.{acked, rests}
+use Rattle.parts.specs.Parts.{isTelling}
+use Rattle.parts.specs.Sizes.{tellSize}
+use Rattle.parts.specs.declared.Console.{Console}
+use Rattle.parts.specs.declared.Frame.{Frame}
+use Rattle.parts.specs.declared.Frame.the-variants.{Ack, Nothing}
+use Rattle.parts.specs.declared.Setup.{Setup}
+use Rattle.parts.specs.declared.State.the-variants.{Idle}
+use Rattle.board.specs.Answers.{answer}
+use Rattle.board.specs.Boards.{consoleAt, frameAt, nodeAt, withConsole, withFrame}
+use Rattle.board.specs.declared.Board.{Board}
+use Rattle.board.specs.declared.Outcome.the-variants.{Finished, Heard}
+use Rattle.guarantee.proofs.Tags.{key}
+use Rattle.guarantee.proofs.States.{tell-size-for, telling-waits}
+use Rattle.guarantee.proofs.Rows.{Held, RowOk, acked-floor, acked-row, finished-held, rest-row}
+use Rattle.guarantee.proofs.Boards.{BoardOk, TagKind, tags}
+use Rattle.guarantee.proofs.Consoles.{WaitsOk, acked-ok, rests-ok, waits}
+use Rattle.guarantee.proofs.Spent.{earlier-telling, most, phase-le, spent, spent-heard}
+use Rattle.guarantee.proofs.Effects.{Delivery, Effect, change, console-going, console-is, console-ok, console-side, console-ups, ends-now, five, going, row-of, small-of, spentAt, waiting}
+
+module _ {K : TagKind} {σ : Setup} {b : Board} {c k : ℕ} (d : Delivery K σ b c k)
+    (e : frameAt b c k ≡ Ack) (p : isTelling (consoleAt b c .state) ≡ true) (un : member (consoleAt b c .answered) k ≡ false) where
+  -- the console with the ack taken in
+  abbrev x₁ : Console
+  x₁ = acked (consoleAt b c) k
+
+  abbrev row₁ : ℕ → Frame
+  row₁ = frameAt (withFrame b c k Nothing) c
+
+  was-waiting : WaitsOk σ (consoleAt b c .state) (consoleAt b c)
+  was-waiting = waiting d (telling-waits (consoleAt b c .state) p)
+
+  fewer : size (consoleAt b c .answered) < tellSize σ
+  fewer = omega (arith, was-waiting .fewer, tell-size-for σ (consoleAt b c .state) p)
+
+  ack-row : RowOk σ x₁ row₁ (tags b)
+  ack-row = acked-row σ (five d) k (d .k-n) (consoleAt b c) (frameAt b c) row₁ (tags b) p (was-waiting .small) e (change d Nothing) (row-of d)
+
+  ack-spent : spent σ x₁ row₁ ≡ spentAt σ b c + 1
+  unfolding spent acked
+  ack-spent = omega (arith, spent-heard (σ .n) k (consoleAt b c .answered) (frameAt b c) row₁ (five d) (d .k-n) (was-waiting .small) un (rw e) (change d Nothing))
+
+  pub hear-ack-effect : size (insert (consoleAt b c .answered) k) < tellSize (b .setup) → Effect K σ c b (answer Heard (withConsole (withFrame b c k Nothing) c x₁))
+  unfolding acked
+  hear-ack-effect few = record {
+    ok = console-ok d x₁ (d .ok .tagged .best c (d .c-m)) (acked-ok σ (consoleAt b c) k (five d) (d .k-n) p was-waiting (omega (arith, few, ap tellSize (d .ok .shape .setup-is)))) ack-row;
+    beside = console-side d x₁;
+    ups = console-ups d x₁;
+    own = going refl (console-going d x₁ refl
+        (λ t. acked-floor σ (five d) k (d .k-n) (consoleAt b c) (frameAt b c) row₁ (tags b) p (was-waiting .small) e (change d Nothing) t)
+        (omega (arith, ack-spent)));
+  }
+
+  abbrev idle-again : Console
+  idle-again = rests Idle x₁
+
+  finish-held : tellSize σ ≤ size (insert (consoleAt b c .answered) k) → Held σ (tags (withConsole (withFrame b c k Nothing) c idle-again)) (key (consoleAt b c .best))
+  unfolding nodeAt withConsole withFrame acked
+  finish-held all = finished-held σ x₁ row₁ (tags b) (five d) p all ack-row
+
+  finish-spends : spentAt σ b c + 1 ≤ most σ
+  unfolding spent
+  finish-spends = omega (arith, phase-le (σ .n) (consoleAt b c) (frameAt b c) (five d) (was-waiting .small), fewer, earlier-telling σ (consoleAt b c .state) p)
+
+  finish-row : RowOk σ idle-again row₁ (tags b)
+  unfolding rests
+  finish-row = rest-row σ idle-again row₁ (tags b) (five d) refl refl
+
+  finish-ok : BoardOk K σ (withConsole (withFrame b c k Nothing) c idle-again)
+  unfolding rests
+  finish-ok = console-ok d idle-again (d .fair .zero-in) (rests-ok σ x₁ .0) finish-row
+
+  finish-idle : consoleAt (withConsole (withFrame b c k Nothing) c idle-again) c .state ≡ Idle
+  unfolding rests
+  finish-idle = ap (λ (y : Console). y .state) (console-is d idle-again)
+
+  pub finish-effect : tellSize σ ≤ size (insert (consoleAt b c .answered) k)
+      → Effect K σ c b (answer (Finished (consoleAt b c .best) (consoleAt b c .value)) (withConsole (withFrame b c k Nothing) c idle-again))
+  finish-effect all = record {
+    ok = finish-ok;
+    beside = console-side d idle-again;
+    ups = console-ups d idle-again;
+    own = ends-now (record {
+      waits = telling-waits (consoleAt b c .state) p;
+      idle = finish-idle;
+      held = finish-held all;
+      floor = λ t g. g .tells p;
+      small = small-of d (consoleAt b c .best) (consoleAt b c .value) (d .ok .tagged .best c (d .c-m));
+      spends = finish-spends;
+    });
+  }

@@ -1,0 +1,26 @@
+-- The proof of demand 3, in the order in which the files build on each other.
+pub mod Lists
+pub mod Quorums
+pub mod Sets
+pub mod Tags
+pub mod Sizes
+pub mod States
+pub mod Shapes
+pub mod Views
+pub mod Rows
+pub mod Boards
+pub mod Consoles
+pub mod Spent
+pub mod Effects
+pub mod ToNode
+pub mod Replies
+pub mod Acks
+pub mod Deliveries
+pub mod Starts
+pub mod Moves
+pub mod Known
+pub mod Invariant
+pub mod StepsKeep
+pub mod Progress
+pub mod Theorem
+pub mod ReachedHold

@@ -1,0 +1,147 @@
+-- A reply is taken in by an asking console: heard below the asking size, and at it the console turns.
+use Prim.Native.Nat.{ℕ, _+_, _≤_, _<_}
+use mathlib.Core.Bool.{true, false}
+use mathlib.Core.Path.{refl, ap, _≡_}
+use native.Mathlib.Omega.{arith}
+use Rattle.parts.specs.AnsweredSet.{insert, member, size}
+use Rattle.parts.specs.Changes.{hears, nextTag, tells}
+use Rattle.parts.specs.Parts.{isAsking, toTelling, writes}
+use Rattle.parts.specs.Sizes.{askSize}
+use Rattle.parts.specs.declared.Console.{Console}
+use Rattle.parts.specs.declared.Frame.{Frame}
+use Rattle.parts.specs.declared.Frame.the-variants.{Nothing, Put, Reply}
+use Rattle.parts.specs.declared.Setup.{Setup}
+use Rattle.parts.specs.declared.Tag.{Tag}
+use Rattle.checks.specs.Clauses.{stateOk}
+use Rattle.board.specs.Answers.{answer}
+use Rattle.board.specs.Boards.{consoleAt, frameAt, nodeAt, withConsole, withFrame, withRow}
+use Rattle.board.specs.Deliver.{turned}
+use Rattle.board.specs.declared.Board.{Board}
+use Rattle.board.specs.declared.Outcome.the-variants.{Heard, Turned}
+use Rattle.guarantee.proofs.Sets.{insert-small}
+use Rattle.guarantee.proofs.Tags.{Small}
+use Rattle.guarantee.proofs.States.{ask-size-for, asking-waits, turns}
+use Rattle.guarantee.proofs.Shapes.{console-same, row-beyond, row-same, shape-row}
+use Rattle.guarantee.proofs.Rows.{RowOk, heard-all, heard-backed, heard-floor, heard-row, turned-floor, turned-row}
+use Rattle.guarantee.proofs.Boards.{Beside, BoardOk, TagKind, beside-console, beside-row, beside-trans, kept, same-floor, same-row, tags}
+use Rattle.guarantee.proofs.Consoles.{WaitsOk, console-state, hears-kind, hears-ok, tells-kind, tells-ok}
+use Rattle.guarantee.proofs.Spent.{earlier, earlier-asking, earlier-telling, phase-le, spent, spent-heard}
+use Rattle.guarantee.proofs.Effects.{Delivery, Effect, RowFloor, c-8, change, console-going, console-ok, console-side, console-ups, five, going, reply-kind, row-of, small-of, spentAt, turns-now, waiting}
+
+module _ {K : TagKind} {σ : Setup} {b : Board} {c k : ℕ} (d : Delivery K σ b c k)
+    (u : Tag) (v : ℕ) (e : frameAt b c k ≡ Reply u v) (p : isAsking (consoleAt b c .state) ≡ true) (un : member (consoleAt b c .answered) k ≡ false) where
+  -- the console with the reply taken in
+  abbrev x₁ : Console
+  x₁ = hears (consoleAt b c) k u v
+
+  abbrev row₁ : ℕ → Frame
+  row₁ = frameAt (withFrame b c k Nothing) c
+
+  was-waiting : WaitsOk σ (consoleAt b c .state) (consoleAt b c)
+  was-waiting = waiting d (asking-waits (consoleAt b c .state) p)
+
+  fewer : size (consoleAt b c .answered) < askSize σ
+  fewer = omega (arith, was-waiting .fewer, ask-size-for σ (consoleAt b c .state) p)
+
+  best-small : Small (consoleAt b c .best)
+  best-small = small-of d (consoleAt b c .best) (consoleAt b c .value) (d .ok .tagged .best c (d .c-m))
+
+  reply-small : Small u
+  reply-small = small-of d u v (reply-kind d e)
+
+  heard-kind : K (x₁ .best) (x₁ .value)
+  heard-kind = hears-kind K (consoleAt b c) k u v (d .ok .tagged .best c (d .c-m)) (reply-kind d e)
+
+  hear-spent : spentAt σ b c + 1 ≤ spent σ x₁ row₁
+  unfolding spent hears
+  hear-spent = omega (arith, spent-heard (σ .n) k (consoleAt b c .answered) (frameAt b c) row₁ (five d) (d .k-n) (was-waiting .small) un (rw e) (change d Nothing))
+
+  -- ---- heard
+
+  pub hear-effect : size (insert (consoleAt b c .answered) k) < askSize (b .setup) → Effect K σ c b (answer Heard (withConsole (withFrame b c k Nothing) c x₁))
+  unfolding hears
+  hear-effect few = record {
+    ok = console-ok d x₁ heard-kind (hears-ok σ (consoleAt b c) k u v (five d) (d .k-n) p was-waiting (omega (arith, few, ap askSize (d .ok .shape .setup-is))))
+        (heard-row σ (five d) k (d .k-n) (consoleAt b c) u v (frameAt b c) row₁ (tags b) best-small reply-small (was-waiting .small) e (change d Nothing) p (row-of d));
+    beside = console-side d x₁;
+    ups = console-ups d x₁;
+    own = going refl (console-going d x₁ refl
+        (λ t. heard-floor σ (five d) k (d .k-n) (consoleAt b c) u v (frameAt b c) row₁ (tags b) best-small reply-small (was-waiting .small) e (change d Nothing) t p)
+        hear-spent);
+  }
+
+  -- ---- turned
+
+  abbrev x₂ : Console
+  x₂ = tells c x₁
+
+  abbrev told : Board
+  told = withRow b c (Put (x₂ .best) (x₂ .value))
+
+  turn-console : consoleAt (turned b c x₁) c ≡ x₂
+  unfolding turned
+  turn-console = console-same told (shape-row b c (Put (x₂ .best) (x₂ .value)) (d .ok .shape)) c x₂ (c-8 d)
+
+  -- its state on the next board
+  pub turn-state : consoleAt (turned b c x₁) c .state ≡ toTelling (consoleAt b c .state)
+  unfolding tells hears
+  turn-state = ap (λ (y : Console). y .state) turn-console
+
+  turn-side : Beside σ c b (turned b c x₁)
+  unfolding turned
+  turn-side = beside-trans (beside-row b c (Put (x₂ .best) (x₂ .value)) (d .ok .shape)) (beside-console told c x₂)
+
+  turn-frame : (j : ℕ) → j < σ .n → frameAt (turned b c x₁) c j ≡ Put (x₂ .best) (x₂ .value)
+  unfolding turned frameAt withConsole
+  turn-frame j l = row-same b (d .ok .shape) c j (Put (x₂ .best) (x₂ .value)) (d .c-m) l
+
+  turn-beyond : (j : ℕ) → σ .n ≤ j → j < 5 → frameAt (turned b c x₁) c j ≡ frameAt b c j
+  unfolding turned frameAt withConsole
+  turn-beyond j l i = row-beyond b (d .ok .shape) c j (Put (x₂ .best) (x₂ .value)) l
+
+  module _ (chosen : writes (consoleAt b c .state) ≡ true → K (nextTag c x₁) (consoleAt b c .wanted)) (all : askSize σ ≤ size (insert (consoleAt b c .answered) k)) where
+    turn-ok-state : stateOk σ x₂ (toTelling (consoleAt b c .state)) ≡ true
+    unfolding hears
+    turn-ok-state = tells-ok σ c x₁ (d .ok .shape .allowed) p (was-waiting .want)
+
+    turn-kind : K (x₂ .best) (x₂ .value)
+    unfolding hears
+    turn-kind = tells-kind K c x₁ heard-kind chosen
+
+    turn-row : RowOk σ x₂ (frameAt (turned b c x₁) c) (tags b)
+    unfolding hears
+    turn-row = turned-row σ c x₁ (frameAt (turned b c x₁) c) (tags b) (five d) p turn-frame
+
+    turn-ok : BoardOk K σ (turned b c x₁)
+    unfolding nodeAt withConsole withRow tells turned hears
+    turn-ok = kept c b (turned b c x₁) (d .c-m) turn-side (d .ok) (d .ok .tagged .node) (rw turn-console turn-kind) (console-state σ turn-console refl turn-ok-state)
+        (λ j l. rw (turn-frame j l) turn-kind) turn-beyond (same-row σ turn-console (λ _ _. refl) turn-row)
+
+    turn-floor : (t : ℕ) → RowFloor σ b c t → RowFloor σ (turned b c x₁) c t
+    unfolding nodeAt withConsole withRow turned hears
+    turn-floor t g = same-floor σ turn-console (λ _ _. refl) (turned-floor σ c x₁ (frameAt (turned b c x₁) c) (tags b) t p (small-of d (x₁ .best) (x₁ .value) heard-kind)
+        (heard-all σ (d .ok .shape .allowed) x₁ row₁ (tags b) t (insert-small (σ .n) (consoleAt b c .answered) k (five d) (was-waiting .small) (d .k-n)) all
+        (heard-backed σ (five d) k (d .k-n) (consoleAt b c) u v (frameAt b c) row₁ (tags b) best-small reply-small (was-waiting .small) e (change d Nothing) t (g .asks p))))
+
+    turn-spends : spentAt σ b c + 1 ≤ spentAt σ (turned b c x₁) c
+    unfolding spent
+    turn-spends = omega (
+      arith,
+      phase-le (σ .n) (consoleAt b c) (frameAt b c) (five d) (was-waiting .small),
+      fewer,
+      earlier-asking σ (consoleAt b c .state) p,
+      ap (earlier σ) turn-state,
+      earlier-telling σ (toTelling (consoleAt b c .state)) (turns (consoleAt b c .state) p .0),
+    )
+
+    turn-ups : (j : ℕ) → nodeAt (turned b c x₁) j .up ≡ nodeAt b j .up
+    unfolding nodeAt withConsole withRow turned
+    turn-ups j = refl
+
+    pub turn-effect : Effect K σ c b (answer Turned (turned b c x₁))
+    turn-effect = record {
+      ok = turn-ok;
+      beside = turn-side;
+      ups = turn-ups;
+      own = turns-now (record { asked = p; state = turn-state; floor = turn-floor; spends = turn-spends });
+    }

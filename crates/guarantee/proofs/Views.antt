@@ -1,0 +1,148 @@
+-- What each step's answer can be, with the facts that lead there. Later proofs split on these and never on a step's text.
+-- a question answered yes
+use Prim.Native.Nat.{ℕ, _≤_, _<_}
+use mathlib.Core.Bool.{Bool, true, false, not}
+use mathlib.Core.List.{List, _∷_, []}
+use mathlib.Core.Path.{refl, _≡_}
+use native.Mathlib.Omega.{arith}
+use borrow.Author.Tests.{ltb-true, ltb-false, le-leb}
+use lib.Dec.{ltb}
+use Rattle.parts.specs.AnsweredSet.{insert, member, size}
+use Rattle.parts.specs.Changes.{acked, awaits, hears, rests, taken, withUp}
+use Rattle.parts.specs.Limits.{maxTs}
+use Rattle.parts.specs.Parts.{isAsking, isNothing, isTelling, writes}
+use Rattle.parts.specs.Sizes.{askSize, tellSize}
+use Rattle.parts.specs.declared.Frame.{Frame}
+use Rattle.parts.specs.declared.Frame.the-variants.{Ack, Ask, Nothing, Put, Reply}
+use Rattle.parts.specs.declared.Kind.{Kind}
+use Rattle.parts.specs.declared.Setup.{Setup}
+use Rattle.parts.specs.declared.State.the-variants.{Down, Idle}
+use Rattle.parts.specs.declared.Tag.{Tag}
+use Rattle.checks.specs.Clauses.{consolesAllowed, nodesAllowed}
+use Rattle.board.specs.Answers.{Question, answer, guarded, refuse}
+use Rattle.board.specs.Boards.{consoleAt, frameAt, freshBoard, nodeAt, withConsole, withFrame, withNode}
+use Rattle.board.specs.Deliver.{acknowledged, deliver, discards, heard, onAck, onAsk, onFrame, onPut, onReply, replied, toNode, turned}
+use Rattle.board.specs.Questions.{console-is-idle, console-is-up, has-allowed-consoles, has-allowed-nodes, has-console, has-next-ts, has-node, holds-frame, is-well-formed, node-is-up}
+use Rattle.board.specs.Steps.{begin, begun, consoleDown, fresh, nodeDown, smallest}
+use Rattle.board.specs.declared.Answer.{Answer}
+use Rattle.board.specs.declared.Board.{Board}
+use Rattle.board.specs.declared.Outcome.the-variants.{Discarded, Done, Finished, Handed, Heard, Turned}
+use Rattle.guarantee.specs.Claim.{_also_, All, none}
+use Rattle.guarantee.proofs.Lists.{all-head}
+use Rattle.guarantee.proofs.Sizes.{Allowed}
+use Rattle.guarantee.proofs.States.{both, contra, idle-is, implied, split, split-but}
+
+abbrev pub Yes : Question → Type 0
+Yes q = q .yes ≡ true
+
+-- of a step: either one of its questions refuses, or all are answered yes
+pub questions : (P : Answer → Type 0) (qs : List Question) {b : Board} {a : Answer} → ((r : ℕ) → P (refuse r b)) → (All Yes qs → P a) → P (guarded qs b a)
+unfolding guarded
+questions P [] n h = h none
+questions P (q ∷ qs) n h = split P (q .yes) (λ e. questions P qs n (λ es. h (e also es))) (λ _. n (q .number))
+
+pub all-yes : (P : Answer → Type 0) (qs : List Question) (b : Board) {a : Answer} → All Yes qs → P a → P (guarded qs b a)
+unfolding guarded
+all-yes P [] b none h = h
+all-yes P (q ∷ qs) b (e also es) h = rw e (all-yes P qs b es h)
+
+-- ---- deliver
+
+-- a delivery in range that no question refused
+pub data Delivered (b : Board) (c k : ℕ) : Answer → Type 0 where
+  no : {r : ℕ} → Delivered b c k (refuse r b)
+  ask : frameAt b c k ≡ Ask → Delivered b c k (answer Handed (withFrame b c k (Reply (nodeAt b k .tag) (nodeAt b k .value))))
+  put : {u : Tag} {v : ℕ} → frameAt b c k ≡ Put u v → Delivered b c k (answer Handed (withNode (withFrame b c k Ack) k (taken (nodeAt b k) u v)))
+  hear : {u : Tag} {v : ℕ} → frameAt b c k ≡ Reply u v → isAsking (consoleAt b c .state) ≡ true → member (consoleAt b c .answered) k ≡ false
+      → size (insert (consoleAt b c .answered) k) < askSize (b .setup)
+      → Delivered b c k (answer Heard (withConsole (withFrame b c k Nothing) c (hears (consoleAt b c) k u v)))
+  turn : {u : Tag} {v : ℕ} → frameAt b c k ≡ Reply u v → isAsking (consoleAt b c .state) ≡ true → member (consoleAt b c .answered) k ≡ false
+      → askSize (b .setup) ≤ size (insert (consoleAt b c .answered) k)
+      → (writes (consoleAt b c .state) ≡ true → hears (consoleAt b c) k u v .best .ts < maxTs)
+      → Delivered b c k (answer Turned (turned b c (hears (consoleAt b c) k u v)))
+  hear-ack : frameAt b c k ≡ Ack → isTelling (consoleAt b c .state) ≡ true → member (consoleAt b c .answered) k ≡ false
+      → size (insert (consoleAt b c .answered) k) < tellSize (b .setup)
+      → Delivered b c k (answer Heard (withConsole (withFrame b c k Nothing) c (acked (consoleAt b c) k)))
+  finish : frameAt b c k ≡ Ack → isTelling (consoleAt b c .state) ≡ true → member (consoleAt b c .answered) k ≡ false
+      → tellSize (b .setup) ≤ size (insert (consoleAt b c .answered) k)
+      → Delivered b c k (answer (Finished (consoleAt b c .best) (consoleAt b c .value)) (withConsole (withFrame b c k Nothing) c (rests Idle (acked (consoleAt b c) k))))
+  drop-reply : {u : Tag} {v : ℕ} → frameAt b c k ≡ Reply u v → (isAsking (consoleAt b c .state) ≡ true → member (consoleAt b c .answered) k ≡ true)
+      → Delivered b c k (answer Discarded (withFrame b c k Nothing))
+  drop-ack : frameAt b c k ≡ Ack → (isTelling (consoleAt b c .state) ≡ true → member (consoleAt b c .answered) k ≡ true)
+      → Delivered b c k (answer Discarded (withFrame b c k Nothing))
+
+-- every delivery is a refusal, or is in range and one of the above
+pub data Ranged (b : Board) (c k : ℕ) : Answer → Type 0 where
+  out : {r : ℕ} → Ranged b c k (refuse r b)
+  into : {a : Answer} → c < b .setup .m → k < b .setup .n → Delivered b c k a → Ranged b c k a
+
+module _ (b : Board) (c k : ℕ) where
+  abbrev P : Answer → Type 0
+  P = Delivered b c k
+
+  view-frame : (f : Frame) → not (isNothing f) ≡ true → frameAt b c k ≡ f → Delivered b c k (onFrame b c k f)
+  unfolding onFrame onAsk onPut toNode onReply onAck replied acknowledged heard discards awaits hears acked
+  view-frame Nothing n e = absurd (contra n refl)
+  view-frame Ask n e = questions P (node-is-up b k ∷ []) (λ _. no) (λ _. ask e)
+  view-frame (Put u v) n e = questions P (node-is-up b k ∷ []) (λ _. no) (λ _. put e)
+  view-frame (Reply u v) n e = split-but P (isAsking (consoleAt b c .state)) (member (consoleAt b c .answered) k)
+      (λ p i. split P (ltb (size (insert (consoleAt b c .answered) k)) (askSize (b .setup)))
+      (λ l. hear e p i (omega (arith, ltb-true)))
+      (λ l. questions P (has-next-ts (hears (consoleAt b c) k u v) ∷ []) (λ _. no)
+      (λ y. turn e p i (omega (arith, ltb-false))
+      (λ w. ltb-true (hears (consoleAt b c) k u v .best .ts) maxTs (implied (writes (consoleAt b c .state)) _ (all-head y) w)))))
+      (λ t. drop-reply e t)
+  view-frame Ack n e = split-but P (isTelling (consoleAt b c .state)) (member (consoleAt b c .answered) k)
+      (λ p i. split P (ltb (size (insert (consoleAt b c .answered) k)) (tellSize (b .setup)))
+      (λ l. hear-ack e p i (omega (arith, ltb-true)))
+      (λ l. finish e p i (omega (arith, ltb-false))))
+      (λ t. drop-ack e t)
+
+  pub delivered : Ranged b c k (deliver b c k)
+  unfolding deliver
+  delivered = questions (Ranged b c k) _ (λ _. out) yes
+    where
+      yes : All Yes (is-well-formed b ∷ has-console b c ∷ has-node b k ∷ holds-frame b c k ∷ []) → Ranged b c k (onFrame b c k (frameAt b c k))
+      yes (_ also cm also kn also n also none) = into (ltb-true c (b .setup .m) cm) (ltb-true k (b .setup .n) kn) (view-frame (frameAt b c k) n refl)
+
+-- ---- the other steps
+
+-- fresh makes the board, of an allowed setup
+pub fresh-made : (σ : Setup) → Allowed σ → fresh σ ≡ answer Done (freshBoard σ)
+unfolding fresh nodesAllowed consolesAllowed
+fresh-made σ al = all-yes (λ a. a ≡ answer Done (freshBoard σ)) (has-allowed-nodes (σ .n) ∷ has-allowed-consoles (σ .m) ∷ []) (freshBoard smallest)
+    (both (le-leb 1 (σ .n) (al .n-1)) (le-leb (σ .n) 5 (al .n-5)) also both (le-leb 1 (σ .m) (al .m-1)) (le-leb (σ .m) 8 (al .m-8)) also none) refl
+
+pub data Begun (b : Board) (c : ℕ) (w : Kind) (v : ℕ) : Answer → Type 0 where
+  no-begin : {r : ℕ} → Begun b c w v (refuse r b)
+  did-begin : c < b .setup .m → consoleAt b c .state ≡ Idle → Begun b c w v (answer Done (begun b c w v))
+
+pub begins : (b : Board) (c : ℕ) (w : Kind) (v : ℕ) → Begun b c w v (begin b c w v)
+unfolding begin
+begins b c w v = questions (Begun b c w v) _ (λ _. no-begin) yes
+  where
+    yes : All Yes (is-well-formed b ∷ has-console b c ∷ console-is-up b c ∷ console-is-idle b c ∷ []) → Begun b c w v (answer Done (begun b c w v))
+    yes (_ also cm also _ also i also none) = did-begin (ltb-true c (b .setup .m) cm) (idle-is (consoleAt b c .state) i)
+
+-- a node turns up or down
+pub data Nodes-turn (u : Bool) (b : Board) (k : ℕ) : Answer → Type 0 where
+  no-node : {r : ℕ} → Nodes-turn u b k (refuse r b)
+  did-node : k < b .setup .n → Nodes-turn u b k (answer Done (withNode b k (withUp u (nodeAt b k))))
+
+pub nodes-down : (b : Board) (k : ℕ) → Nodes-turn false b k (nodeDown b k)
+unfolding nodeDown
+nodes-down b k = questions (Nodes-turn false b k) _ (λ _. no-node) yes
+  where
+    yes : All Yes (is-well-formed b ∷ has-node b k ∷ node-is-up b k ∷ []) → Nodes-turn false b k (answer Done (withNode b k (withUp false (nodeAt b k))))
+    yes (_ also kn also _ also none) = did-node (ltb-true k (b .setup .n) kn)
+
+pub data Consoles-down (b : Board) (c : ℕ) : Answer → Type 0 where
+  no-console : {r : ℕ} → Consoles-down b c (refuse r b)
+  did-console : c < b .setup .m → Consoles-down b c (answer Done (withConsole b c (rests Down (consoleAt b c))))
+
+pub consoles-down : (b : Board) (c : ℕ) → Consoles-down b c (consoleDown b c)
+unfolding consoleDown
+consoles-down b c = questions (Consoles-down b c) _ (λ _. no-console) yes
+  where
+    yes : All Yes (is-well-formed b ∷ has-console b c ∷ console-is-up b c ∷ []) → Consoles-down b c (answer Done (withConsole b c (rests Down (consoleAt b c))))
+    yes (_ also cm also _ also none) = did-console (ltb-true c (b .setup .m) cm)

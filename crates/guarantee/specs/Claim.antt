@@ -1,0 +1,59 @@
+-- Demand 3, as document 01's 'What demand 3 speaks of' reads it: one claim about a whole run of n nodes and m consoles.
+use Prim.Native.Nat.{ℕ, _+_, _*_, _≤_, _<_}
+use mathlib.Core.Bool.{true, false}
+use mathlib.Core.List.{List, [], _∷_}
+use mathlib.Core.Path.{_≡_}
+use Rattle.parts.specs.Finite.{count}
+use Rattle.parts.specs.Tags.{greater}
+use Rattle.parts.specs.Sizes.{majority}
+use Rattle.parts.specs.Parts.{isWaiting}
+use Rattle.board.specs.Boards.{consoleAt}
+use Rattle.board.specs.Deliver.{deliver}
+use Rattle.guarantee.specs.Log.{Op, Open, Complete, accepted, Run}
+
+-- each member of the list, and some member
+pub data All {A : Type 0} (P : A → Type 0) : List A → Type 0 where
+  none : All P []
+  _also_ : {x : A} {l : List A} → P x → All P l → All P (x ∷ l)
+
+pub data Any {A : Type 0} (P : A → Type 0) : List A → Type 0 where
+  here : {x : A} {l : List A} → P x → Any P (x ∷ l)
+  there : {x : A} {l : List A} → Any P l → Any P (x ∷ l)
+
+infixr 30 _also_
+-- the operation is open, and console c's
+abbrev pub OpenAt : ℕ → Op → Type 0
+OpenAt c x = (x .status ≡ Open) × (x .console ≡ c)
+
+-- console c has an operation open
+abbrev pub HasOpen : Run → ℕ → Type 0
+HasOpen r c = Any (OpenAt c) (r .ops)
+
+-- console c is one of the m consoles, and waits
+abbrev pub Waits : ℕ → Run → ℕ → Type 0
+Waits m r c = (c < m) × (isWaiting (consoleAt (r .board) c .state) ≡ true)
+
+-- a console 'has a frame that can be delivered if, for some node, a deliver of that console and node as the next step
+-- would be accepted'
+abbrev pub HasDeliverable : ℕ → Run → ℕ → Type 0
+HasDeliverable n r c = (k : ℕ) × (k < n) × (accepted (deliver (r .board) c k .outcome) ≡ true)
+
+-- two finished operations, 'one's finish before the other's begin'
+abbrev pub FinishedBefore : Op → Op → Type 0
+FinishedBefore x y = (x .status ≡ Complete) × (y .status ≡ Complete) × (x .ended < y .began)
+
+-- y's final tag is no lower than x's, and higher if y wrote
+abbrev pub Fresher : Op → Op → Type 0
+Fresher x y = (greater (x .tag) (y .tag) ≡ false) × (y .wrote ≡ true → greater (y .tag) (x .tag) ≡ true)
+
+pub record Demand3 (n m : ℕ) (r : Run) : Type 0 where
+  -- 'The consoles with an operation open are exactly the waiting ones'
+  pub open-waits : (c : ℕ) → HasOpen r c → Waits m r c
+  pub waits-open : (c : ℕ) → Waits m r c → HasOpen r c
+  -- 'every console with an operation open has a frame that can be delivered, if a majority of the machines is up'
+  pub progress : majority n ≤ count n (r .up) → (c : ℕ) → HasOpen r c → HasDeliverable n r c
+  -- 'every operation has taken at most 2(n + q) accepted deliveries .. from begin to finish, or so far if unfinished'
+  pub bound : All (λ x. x .took ≤ 2 * (n + majority n)) (r .ops)
+  -- 'every finished operation's final tag is no lower than that of any operation finished before it began, and higher if
+  -- it wrote'
+  pub freshness : All (λ y. All (λ x. FinishedBefore x y → Fresher x y) (r .ops)) (r .ops)

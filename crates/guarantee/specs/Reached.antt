@@ -1,0 +1,60 @@
+-- Runs that reach the limits of the claim, and what their logs must be. proofs/ReachedHold.antt computes them.
+use Prim.Native.Nat.{ℕ}
+use mathlib.Core.Bool.{true, false}
+use mathlib.Core.List.{List, [], _∷_}
+use Rattle.parts.specs.declared.Tag.{Tag}
+use Rattle.parts.specs.Tags.{zeroTag}
+use Rattle.board.specs.Runs.{Step, BeginRead, BeginWrite, Deliver, NodeDown}
+use Rattle.guarantee.specs.Log.{Op, Open, Complete}
+
+abbrev one-one : Tag
+one-one = record { ts = 1; console = 1 }
+
+-- P4, on three nodes: 3 + 2 + 3 + 2 deliveries, which is 2 (n + q)
+unfoldable pub p4-steps : List Step
+p4-steps =
+    BeginWrite 1 7
+    ∷ Deliver 1 0
+    ∷ Deliver 1 1
+    ∷ Deliver 1 2
+    ∷ Deliver 1 0
+    ∷ Deliver 1 2
+    ∷ Deliver 1 0
+    ∷ Deliver 1 1
+    ∷ Deliver 1 2
+    ∷ Deliver 1 0
+    ∷ Deliver 1 2
+    ∷ []
+
+unfoldable pub p4-log : List Op
+p4-log = record { console = 1; wrote = true; began = 1; took = 10; turned = true; status = Complete; ended = 11; tag = one-one; value = 7 } ∷ []
+
+-- the first extra: after P2 a delivery on (1, 1) is handed, and the next one discarded; the operation is closed by then
+unfoldable pub late-steps : List Step
+late-steps =
+    BeginWrite 1 7
+    ∷ Deliver 1 0
+    ∷ Deliver 1 0
+    ∷ Deliver 1 2
+    ∷ Deliver 1 2
+    ∷ Deliver 1 0
+    ∷ Deliver 1 0
+    ∷ Deliver 1 2
+    ∷ Deliver 1 2
+    ∷ Deliver 1 1
+    ∷ Deliver 1 1
+    ∷ []
+
+unfoldable pub late-log : List Op
+late-log = record { console = 1; wrote = true; began = 1; took = 8; turned = true; status = Complete; ended = 9; tag = one-one; value = 7 } ∷ []
+
+-- the second extra, on three nodes: nodes 0 and 1 are down, and the console waits after node 2's answer
+unfoldable pub stuck-steps : List Step
+stuck-steps = NodeDown 0 ∷ NodeDown 1 ∷ BeginRead 0 ∷ Deliver 0 2 ∷ Deliver 0 2 ∷ []
+
+unfoldable pub stuck-log : List Op
+stuck-log = record { console = 0; wrote = false; began = 3; took = 2; turned = false; status = Open; ended = 0; tag = zeroTag; value = 0 } ∷ []
+
+-- what delivering to each of its nodes as the next step would be refused with
+unfoldable pub stuck-refusals : List ℕ
+stuck-refusals = 9 ∷ 9 ∷ 8 ∷ []
