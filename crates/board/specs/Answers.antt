@@ -2,43 +2,10 @@
 use Prim.Native.Nat.{ℕ}
 use mathlib.Core.Bool.{Bool, cond}
 use mathlib.Core.List.{List, [], _∷_}
-use Rattle.parts.specs.declared.Tag.{Tag}
-use Rattle.parts.specs.Tags.{zeroTag}
 use Rattle.board.specs.declared.Board.{Board}
-use Rattle.board.specs.declared.Outcome.{Outcome}
-use Rattle.board.specs.declared.Outcome.the-variants.{Refused, Done, Handed, Heard, Turned, Finished, Discarded}
+use Rattle.parts.specs.declared.Outcome.{Outcome}
+use Rattle.parts.specs.declared.Outcome.the-variants.{Refused}
 use Rattle.board.specs.declared.Answer.{Answer}
-
--- ---- an outcome's number, tag and value
-
--- 'Outcomes are written 0 refused, 1 done, 2 handed, 3 heard, 4 turned, 5 finished, 6 discarded'
-abbrev pub outcomeNumber : Outcome → ℕ
-outcomeNumber Refused = 0
-outcomeNumber Done = 1
-outcomeNumber Handed = 2
-outcomeNumber Heard = 3
-outcomeNumber Turned = 4
-outcomeNumber (Finished t v) = 5
-outcomeNumber Discarded = 6
-
--- 'finished, with the best tag and value it had .. Every other outcome carries tag (0, 0), value 0'
-abbrev pub outcomeTag : Outcome → Tag
-outcomeTag Refused = zeroTag
-outcomeTag Done = zeroTag
-outcomeTag Handed = zeroTag
-outcomeTag Heard = zeroTag
-outcomeTag Turned = zeroTag
-outcomeTag (Finished t v) = t
-outcomeTag Discarded = zeroTag
-
-abbrev pub outcomeValue : Outcome → ℕ
-outcomeValue Refused = 0
-outcomeValue Done = 0
-outcomeValue Handed = 0
-outcomeValue Heard = 0
-outcomeValue Turned = 0
-outcomeValue (Finished t v) = v
-outcomeValue Discarded = 0
 
 -- ---- answers
 

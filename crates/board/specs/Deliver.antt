@@ -1,6 +1,6 @@
 -- Deliver (document 01, 'The steps'): one definition for each kind of frame.
 use Prim.Native.Nat.{ℕ}
-use mathlib.Core.Bool.{Bool, cond}
+use mathlib.Core.Bool.{cond}
 use mathlib.Core.List.{[], _∷_}
 use lib.Dec.{ltb}
 use Rattle.parts.specs.declared.Tag.{Tag}
@@ -11,9 +11,9 @@ use Rattle.parts.specs.declared.Console.{Console}
 use Rattle.parts.specs.AnsweredSet.{size}
 use Rattle.parts.specs.Sizes.{askSize, tellSize}
 use Rattle.parts.specs.Parts.{isAsking, isTelling}
-use Rattle.parts.specs.Changes.{taken, rests, awaits, hears, tells, acked}
+use Rattle.changes.specs.Changes.{taken, rests, awaits, hears, tells, acked}
 use Rattle.board.specs.declared.Board.{Board}
-use Rattle.board.specs.declared.Outcome.the-variants.{Handed, Heard, Turned, Finished, Discarded}
+use Rattle.parts.specs.declared.Outcome.the-variants.{Handed, Heard, Turned, Finished, Discarded}
 use Rattle.board.specs.declared.Answer.{Answer}
 use Rattle.board.specs.Boards.{nodeAt, consoleAt, frameAt, withNode, withConsole, withFrame, withRow}
 use Rattle.board.specs.Answers.{answer, guarded}

@@ -5,5 +5,6 @@ pub mod Answers
 pub mod Questions
 pub mod Steps
 pub mod Deliver
+pub mod InRange
 pub mod Runs
 pub mod PRuns

@@ -14,7 +14,7 @@ use Rattle.parts.specs.Parts.{freshNode, idleConsole, cellOf}
 use Rattle.board.specs.declared.Board.{Board}
 use Rattle.board.specs.declared.Answer.{Answer}
 use Rattle.board.specs.Boards.{nodeAt, frameAt, freshBoard}
-use Rattle.board.specs.Answers.{outcomeNumber, outcomeTag, outcomeValue}
+use Rattle.parts.specs.Outcomes.{outcomeNumber, outcomeTag, outcomeValue}
 use Rattle.board.specs.Steps.{setupOf, smallest, fresh}
 use Rattle.board.specs.Runs.{Step, BeginRead, BeginWrite, Deliver, NodeDown, step}
 

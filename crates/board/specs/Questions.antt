@@ -1,7 +1,7 @@
 -- The ten questions of document 01, 'Questions put before each step', in their order, each with the number of its refusal.
 -- This is the table of refusal numbers; the steps say which of them they ask.
 use Prim.Native.Nat.{ℕ}
-use mathlib.Core.Bool.{Bool, not}
+use mathlib.Core.Bool.{not}
 use lib.Dec.{ltb}
 use Rattle.parts.specs.declared.Console.{Console}
 use Rattle.parts.specs.Finite.{_implies_}

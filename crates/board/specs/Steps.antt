@@ -1,16 +1,16 @@
 -- The steps but for deliver (document 01, 'The steps'): fresh, begin read, begin write, node down, console down.
 -- Each is its questions and then its effect.
 use Prim.Native.Nat.{ℕ}
-use mathlib.Core.Bool.{Bool, false}
+use mathlib.Core.Bool.{false}
 use mathlib.Core.List.{[], _∷_}
 use Rattle.parts.specs.declared.Frame.the-variants.{Ask}
 use Rattle.parts.specs.declared.Kind.{Kind}
 use Rattle.parts.specs.declared.Kind.the-variants.{Read, Write}
 use Rattle.parts.specs.declared.State.the-variants.{Down}
 use Rattle.parts.specs.declared.Setup.{Setup}
-use Rattle.parts.specs.Changes.{withUp, rests, asks}
+use Rattle.changes.specs.Changes.{withUp, rests, asks}
 use Rattle.board.specs.declared.Board.{Board}
-use Rattle.board.specs.declared.Outcome.the-variants.{Done}
+use Rattle.parts.specs.declared.Outcome.the-variants.{Done}
 use Rattle.board.specs.declared.Answer.{Answer}
 use Rattle.board.specs.Boards.{nodeAt, consoleAt, withNode, withConsole, withRow, freshBoard}
 use Rattle.board.specs.Answers.{answer, guarded}

@@ -6,6 +6,7 @@ pub use parts::Frame;
 pub use parts::Kind;
 pub use parts::Node;
 pub use parts::NodeId;
+pub use parts::Outcome;
 pub use parts::Setup;
 pub use parts::State;
 pub use parts::Tag;
@@ -19,17 +20,6 @@ pub struct Board {
     pub cells: [Cell; parts::CELLS],
 }
 
-// Document 01's outcome. Only a finished operation's carries a tag and a value.
-pub enum Outcome {
-    Refused,
-    Done,
-    Handed,
-    Heard,
-    Turned,
-    Finished(Tag, u32),
-    Discarded,
-}
-
 // What a step answers: the outcome, the number of the question that refused it (0: none did), and the next board.
 pub struct Answer {
     pub outcome: Outcome,
@@ -37,8 +27,10 @@ pub struct Answer {
     pub board: Board,
 }
 
+mod answers;
 mod checking;
+mod delivery;
 mod making;
-mod outcomes;
 mod places;
 pub mod refusals;
+mod steps;

@@ -4,23 +4,23 @@ use mathlib.Core.Bool.{true, false}
 use mathlib.Core.Path.{refl, ap, _≡_}
 use native.Mathlib.Omega.{arith}
 use Rattle.parts.specs.AnsweredSet.{insert, member, size}
-use Rattle.parts.specs.Changes.{acked, rests}
 use Rattle.parts.specs.Parts.{isTelling}
 use Rattle.parts.specs.Sizes.{tellSize}
 use Rattle.parts.specs.declared.Console.{Console}
 use Rattle.parts.specs.declared.Frame.{Frame}
 use Rattle.parts.specs.declared.Frame.the-variants.{Ack, Nothing}
+use Rattle.parts.specs.declared.Outcome.the-variants.{Finished, Heard}
 use Rattle.parts.specs.declared.Setup.{Setup}
 use Rattle.parts.specs.declared.State.the-variants.{Idle}
+use Rattle.changes.specs.Changes.{acked, rests}
 use Rattle.board.specs.Answers.{answer}
 use Rattle.board.specs.Boards.{consoleAt, frameAt, nodeAt, withConsole, withFrame}
 use Rattle.board.specs.declared.Board.{Board}
-use Rattle.board.specs.declared.Outcome.the-variants.{Finished, Heard}
 use Rattle.guarantee.proofs.Tags.{key}
 use Rattle.guarantee.proofs.States.{tell-size-for, telling-waits}
 use Rattle.guarantee.proofs.Rows.{Held, RowOk, acked-floor, acked-row, finished-held, rest-row}
 use Rattle.guarantee.proofs.Boards.{BoardOk, TagKind, tags}
-use Rattle.guarantee.proofs.Consoles.{WaitsOk, acked-ok, rests-ok, waits}
+use Rattle.guarantee.proofs.Consoles.{WaitsOk, acked-ok, rests-ok}
 use Rattle.guarantee.proofs.Spent.{earlier-telling, most, phase-le, spent, spent-heard}
 use Rattle.guarantee.proofs.Effects.{Delivery, Effect, change, console-going, console-is, console-ok, console-side, console-ups, ends-now, five, going, row-of, small-of, spentAt, waiting}
 

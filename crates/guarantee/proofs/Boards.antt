@@ -7,7 +7,6 @@ use mathlib.Core.Path.{refl, sym, subst, _≡_, _∙_}
 use native.Mathlib.Omega.{arith}
 use borrow.Author.Tests.{ltb-true, ltb-false, eqb-true, eqb-false, le-leb}
 use lib.Dec.{ltb, eqb}
-use Rattle.parts.specs.Changes.{tells}
 use Rattle.parts.specs.Finite.{every}
 use Rattle.parts.specs.Parts.{freshNode, idleConsole, isNothing}
 use Rattle.parts.specs.declared.Console.{Console}

@@ -8,7 +8,6 @@ use borrow.Author.Tests.{ltb-true, ne-eqb, lt-ltb, le-leb}
 use lib.Dec.{ltb, leb, eqb}
 use Rattle.parts.proofs.FiniteLaws.{and-left, and-right}
 use Rattle.parts.specs.AnsweredSet.{insert, onlyBelow, size}
-use Rattle.parts.specs.Changes.{acked, asks, hears, nextTag, rests, taken, tells}
 use Rattle.parts.specs.Finite.{_implies_}
 use Rattle.parts.specs.Limits.{maxTs}
 use Rattle.parts.specs.Parts.{isAsking, isTelling, isWaiting, toTelling, writes}
@@ -22,6 +21,7 @@ use Rattle.parts.specs.declared.State.{State}
 use Rattle.parts.specs.declared.State.the-variants.{Asking, Down, Idle, Telling}
 use Rattle.parts.specs.declared.Tag.{Tag}
 use Rattle.checks.specs.Clauses.{isZero, restOk, stateOk, tagOk, waitOk, wantedOk}
+use Rattle.changes.specs.Changes.{acked, asks, hears, nextTag, rests, taken, tells}
 use Rattle.guarantee.proofs.Sets.{insert-small, insert-some, power-pos, size-empty, small-32}
 use Rattle.guarantee.proofs.Tags.{Small, greater-false, greater-true, key}
 use Rattle.guarantee.proofs.Sizes.{Allowed, ask-pos, sizeFor, tell-pos}

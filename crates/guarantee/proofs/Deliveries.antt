@@ -3,13 +3,13 @@ use Prim.Native.Nat.{ℕ, _≤_, _<_}
 use mathlib.Core.Bool.{true}
 use mathlib.Core.Path.{ap, _≡_}
 use native.Mathlib.Omega.{arith}
-use Rattle.parts.specs.Changes.{hears, nextTag}
 use Rattle.parts.specs.Limits.{maxTs}
 use Rattle.parts.specs.Parts.{isAsking, toTelling, writes}
 use Rattle.parts.specs.Sizes.{askSize, tellSize}
 use Rattle.parts.specs.declared.Frame.the-variants.{Reply}
 use Rattle.parts.specs.declared.Setup.{Setup}
 use Rattle.parts.specs.declared.Tag.{Tag}
+use Rattle.changes.specs.Changes.{hears, nextTag}
 use Rattle.board.specs.Answers.{refuse}
 use Rattle.board.specs.Boards.{consoleAt, frameAt}
 use Rattle.board.specs.declared.Answer.{Answer}

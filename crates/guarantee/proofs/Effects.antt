@@ -11,6 +11,8 @@ use Rattle.parts.specs.Parts.{isAsking, isNothing, isTelling, isWaiting, toTell
 use Rattle.parts.specs.declared.Console.{Console}
 use Rattle.parts.specs.declared.Frame.{Frame}
 use Rattle.parts.specs.declared.Frame.the-variants.{Nothing, Put, Reply}
+use Rattle.parts.specs.declared.Outcome.{Outcome}
+use Rattle.parts.specs.declared.Outcome.the-variants.{Discarded, Done, Finished, Handed, Heard, Refused, Turned}
 use Rattle.parts.specs.declared.Setup.{Setup}
 use Rattle.parts.specs.declared.State.the-variants.{Idle}
 use Rattle.parts.specs.declared.Tag.{Tag}
@@ -18,8 +20,6 @@ use Rattle.checks.specs.Clauses.{stateOk}
 use Rattle.board.specs.Boards.{consoleAt, frameAt, nodeAt, withConsole, withFrame}
 use Rattle.board.specs.declared.Answer.{Answer}
 use Rattle.board.specs.declared.Board.{Board}
-use Rattle.board.specs.declared.Outcome.{Outcome}
-use Rattle.board.specs.declared.Outcome.the-variants.{Discarded, Done, Finished, Handed, Heard, Refused, Turned}
 use Rattle.guarantee.proofs.Tags.{Small, key}
 use Rattle.guarantee.proofs.States.{waiting-cases}
 use Rattle.guarantee.proofs.Shapes.{Shape, console-same, frame-beside, frame-same, shape-frame}

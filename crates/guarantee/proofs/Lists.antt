@@ -1,8 +1,8 @@
 -- Of all, of one, and of each two of a list: how they follow from each other.
--- two lists of one length, each two of their members related
 use mathlib.Core.List.{List, map, _∷_, []}
 use Rattle.guarantee.specs.Claim.{_also_, All, Any, here, none, there}
 
+-- two lists of one length, each two of their members related
 pub data Each {A : Type 0} (R : A → A → Type 0) : List A → List A → Type 0 where
   no-more : Each R [] []
   link : {x y : A} {l r : List A} → R x y → Each R l r → Each R (x ∷ l) (y ∷ r)

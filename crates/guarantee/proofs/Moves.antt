@@ -10,13 +10,13 @@ use lib.Dec.{eqb}
 use Rattle.parts.specs.AnsweredSet.{member}
 use Rattle.parts.specs.Finite.{one}
 use Rattle.parts.specs.Parts.{isAsking, isTelling, isWaiting, place, writes}
+use Rattle.parts.specs.declared.Outcome.{Outcome}
+use Rattle.parts.specs.declared.Outcome.the-variants.{Discarded, Done, Finished, Handed, Heard, Refused, Turned}
 use Rattle.parts.specs.declared.Setup.{Setup}
 use Rattle.parts.specs.declared.State.the-variants.{Down}
 use Rattle.parts.specs.declared.Tag.{Tag}
 use Rattle.board.specs.Boards.{consoleAt, frameAt}
 use Rattle.board.specs.declared.Board.{Board}
-use Rattle.board.specs.declared.Outcome.{Outcome}
-use Rattle.board.specs.declared.Outcome.the-variants.{Discarded, Done, Finished, Handed, Heard, Refused, Turned}
 use Rattle.guarantee.specs.Log.{Complete, Lost, Op, Open, Status, counted, delivering, finishing, isOpen, losing, ofConsole, turning}
 use Rattle.guarantee.proofs.Tags.{Small, key}
 use Rattle.guarantee.proofs.States.{ask-size-for, contra, not-both, tell-size-for, telling-waits, turns, waiting-cases}
@@ -219,7 +219,7 @@ module _ {K : TagKind} {σ : Setup} {place : ℕ} {b b′ : Board} (x : Op) (e :
     same-began = refl;
     same-console = refl;
     same-wrote = refl;
-    keeps = λ _. refl;
+    keeps = λ q. q;
     above = λ t r. record { while-open = λ q. absurd (open-complete q refl); once-complete = λ _. omega (arith, g .floor t (r .while-open e), ap one (h .writes e)) };
     old = λ _. inr refl;
     stays = λ _ w. absurd (contra w (rw (g .idle)));
@@ -231,7 +231,7 @@ module _ {K : TagKind} {σ : Setup} {place : ℕ} {b b′ : Board} (x : Op) (e :
       writes = λ q. absurd (open-complete q refl);
       spends = λ q. absurd (open-complete q refl);
       asks = λ q. absurd (open-complete q refl);
-      tells = λ _ _. refl;
+      tells = λ q. absurd (open-complete q refl);
       past = λ _. omega arith;
       held = λ _. g .held;
       small = λ _. g .small;

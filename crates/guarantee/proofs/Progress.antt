@@ -10,7 +10,6 @@ use borrow.Author.Tests.{lt-ltb}
 use lib.Dec.{ltb}
 use Rattle.parts.proofs.FiniteLaws.{and-left}
 use Rattle.parts.specs.AnsweredSet.{insert, member, size}
-use Rattle.parts.specs.Changes.{acked, awaits, hears}
 use Rattle.parts.specs.Finite.{count}
 use Rattle.parts.specs.Limits.{maxTs}
 use Rattle.parts.specs.Parts.{isAsking, isNothing, isTelling, isWaiting, writes}
@@ -19,9 +18,11 @@ use Rattle.parts.specs.declared.Frame.{Frame}
 use Rattle.parts.specs.declared.Frame.the-variants.{Ack, Ask, Nothing, Put, Reply}
 use Rattle.parts.specs.declared.Setup.{Setup}
 use Rattle.parts.specs.declared.Tag.{Tag}
+use Rattle.changes.specs.Changes.{acked, awaits, hears}
 use Rattle.board.specs.Boards.{consoleAt, frameAt, nodeAt}
 use Rattle.board.specs.Deliver.{acknowledged, deliver, discards, heard, onAck, onAsk, onFrame, onPut, onReply, replied, toNode}
 use Rattle.board.specs.Questions.{has-console, has-next-ts, has-node, holds-frame, is-well-formed, node-is-up}
+use Rattle.board.specs.Runs.{Deliver, step}
 use Rattle.board.specs.declared.Answer.{Answer}
 use Rattle.board.specs.declared.Board.{Board}
 use Rattle.guarantee.specs.Claim.{_also_, HasDeliverable, none}
@@ -59,8 +60,8 @@ frame-taken b c k (Reply u v) up below = split-but Accepts (isAsking (consoleAt 
 frame-taken b c k Ack up below = split-but Accepts (isTelling (consoleAt b c .state)) (member (consoleAt b c .answered) k)
     (λ _ _. split Accepts (ltb (size (insert (consoleAt b c .answered) k)) (tellSize (b .setup))) (λ _. refl) (λ _. refl)) (λ _. refl)
 
-deliver-taken : {σ : Setup} (b : Board) (c k : ℕ) → BoardOk (Good σ) σ b → c < σ .m → k < σ .n → isNothing (frameAt b c k) ≡ false → Accepts (onFrame b c k (frameAt b c k)) → Accepts (deliver b c k)
-unfolding deliver
+deliver-taken : {σ : Setup} (b : Board) (c k : ℕ) → BoardOk (Good σ) σ b → c < σ .m → k < σ .n → isNothing (frameAt b c k) ≡ false → Accepts (onFrame b c k (frameAt b c k)) → Accepts (step b (Deliver c k))
+unfolding deliver step
 deliver-taken b c k h cm kn full t = all-yes Accepts (is-well-formed b ∷ has-console b c ∷ has-node b k ∷ holds-frame b c k ∷ []) b
     (well-formed b h also lt-ltb c (b .setup .m) (omega (arith, m-is (h .shape))) also lt-ltb k (b .setup .n) (omega (arith, n-is (h .shape))) also (rw full) also none) t
 

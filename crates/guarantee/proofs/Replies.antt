@@ -4,20 +4,20 @@ use mathlib.Core.Bool.{true, false}
 use mathlib.Core.Path.{refl, ap, _≡_}
 use native.Mathlib.Omega.{arith}
 use Rattle.parts.specs.AnsweredSet.{insert, member, size}
-use Rattle.parts.specs.Changes.{hears, nextTag, tells}
 use Rattle.parts.specs.Parts.{isAsking, toTelling, writes}
 use Rattle.parts.specs.Sizes.{askSize}
 use Rattle.parts.specs.declared.Console.{Console}
 use Rattle.parts.specs.declared.Frame.{Frame}
 use Rattle.parts.specs.declared.Frame.the-variants.{Nothing, Put, Reply}
+use Rattle.parts.specs.declared.Outcome.the-variants.{Heard, Turned}
 use Rattle.parts.specs.declared.Setup.{Setup}
 use Rattle.parts.specs.declared.Tag.{Tag}
 use Rattle.checks.specs.Clauses.{stateOk}
+use Rattle.changes.specs.Changes.{hears, nextTag, tells}
 use Rattle.board.specs.Answers.{answer}
 use Rattle.board.specs.Boards.{consoleAt, frameAt, nodeAt, withConsole, withFrame, withRow}
 use Rattle.board.specs.Deliver.{turned}
 use Rattle.board.specs.declared.Board.{Board}
-use Rattle.board.specs.declared.Outcome.the-variants.{Heard, Turned}
 use Rattle.guarantee.proofs.Sets.{insert-small}
 use Rattle.guarantee.proofs.Tags.{Small}
 use Rattle.guarantee.proofs.States.{ask-size-for, asking-waits, turns}

@@ -8,7 +8,6 @@ use native.Mathlib.Omega.{arith}
 use borrow.Author.Tests.{eqb-true, eqb-false}
 use lib.Dec.{eqb}
 use Rattle.parts.specs.AnsweredSet.{insert, member, size}
-use Rattle.parts.specs.Changes.{acked, hears, nextTag, tells}
 use Rattle.parts.specs.Finite.{count, one}
 use Rattle.parts.specs.Parts.{isAsking, isNothing, isTelling, isWaiting, toTelling, writes}
 use Rattle.parts.specs.Sizes.{askSize, tellSize}
@@ -18,6 +17,7 @@ use Rattle.parts.specs.declared.Frame.{Frame}
 use Rattle.parts.specs.declared.Frame.the-variants.{Ack, Ask, Nothing, Put, Reply}
 use Rattle.parts.specs.declared.Setup.{Setup}
 use Rattle.parts.specs.declared.Tag.{Tag}
+use Rattle.changes.specs.Changes.{acked, hears, nextTag, tells}
 use Rattle.guarantee.proofs.Quorums.{Meet, meet}
 use Rattle.guarantee.proofs.Sets.{insert-other, insert-same, insert-small, member-empty, power-pos, size-count, small-32}
 use Rattle.guarantee.proofs.Tags.{Small, greater-false, greater-true, key}

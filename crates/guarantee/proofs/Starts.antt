@@ -6,7 +6,6 @@ use native.Mathlib.Omega.{arith}
 use borrow.Author.Tests.{ne-eqb, eq-eqb}
 use lib.Dec.{eqb}
 use lib.ListN.{getD, replicate}
-use Rattle.parts.specs.Changes.{asks, rests, withUp}
 use Rattle.parts.specs.Parts.{cellOf, consoleIn, frameIn, freshNode, idleConsole, nodeIn, place}
 use Rattle.parts.specs.declared.Cell.{Cell}
 use Rattle.parts.specs.declared.Console.{Console}
@@ -15,6 +14,7 @@ use Rattle.parts.specs.declared.Kind.{Kind}
 use Rattle.parts.specs.declared.Setup.{Setup}
 use Rattle.parts.specs.declared.State.the-variants.{Asking, Down, Idle}
 use Rattle.checks.specs.Clauses.{isZero, restOk, stateOk, wantedOk}
+use Rattle.changes.specs.Changes.{asks, rests, withUp}
 use Rattle.board.specs.Boards.{consoleAt, frameAt, freshBoard, nodeAt, withConsole, withNode, withRow}
 use Rattle.board.specs.Steps.{begun}
 use Rattle.board.specs.declared.Board.{Board}

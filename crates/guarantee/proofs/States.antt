@@ -29,10 +29,6 @@ split-but P true true h i = i (λ _. refl)
 split-but P true false h i = h refl refl
 split-but P false y h i = i (λ e. cc)
 
-pub implied : (x y : Bool) → (x implies y) ≡ true → x ≡ true → y ≡ true
-implied true y h e = h
-implied false y h e = cc
-
 pub implies-of : (x y : Bool) → (x ≡ true → y ≡ true) → (x implies y) ≡ true
 implies-of true y h = h refl
 implies-of false y h = refl

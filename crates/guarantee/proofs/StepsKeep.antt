@@ -6,21 +6,21 @@ use mathlib.Core.Path.{refl, sym, ap, _≡_, _∙_}
 use native.Mathlib.Omega.{arith}
 use borrow.Author.Tests.{eqb-true, eqb-false}
 use lib.Dec.{eqb}
-use Rattle.parts.specs.Changes.{hears, nextTag, rests, withUp}
-use Rattle.parts.specs.Parts.{isTelling, isWaiting, isWrite, writes}
+use Rattle.parts.specs.Parts.{isTelling, isWaiting, isWrite}
 use Rattle.parts.specs.declared.Console.{Console}
 use Rattle.parts.specs.declared.Kind.{Kind}
 use Rattle.parts.specs.declared.Kind.the-variants.{Read, Write}
+use Rattle.parts.specs.declared.Outcome.{Outcome}
+use Rattle.parts.specs.declared.Outcome.the-variants.{Discarded, Done, Finished, Handed, Heard, Refused, Turned}
 use Rattle.parts.specs.declared.Setup.{Setup}
 use Rattle.parts.specs.declared.State.the-variants.{Down}
 use Rattle.checks.specs.Clauses.{wantedOk}
+use Rattle.changes.specs.Changes.{hears, nextTag, rests, withUp}
 use Rattle.board.specs.Boards.{consoleAt, freshBoard, nodeAt, withConsole, withNode}
 use Rattle.board.specs.Runs.{BeginRead, BeginWrite, ConsoleDown, Deliver, NodeDown, Step, step}
 use Rattle.board.specs.Steps.{begun, fresh, setupOf}
 use Rattle.board.specs.declared.Answer.{Answer}
 use Rattle.board.specs.declared.Board.{Board}
-use Rattle.board.specs.declared.Outcome.{Outcome}
-use Rattle.board.specs.declared.Outcome.the-variants.{Discarded, Done, Finished, Handed, Heard, Refused, Turned}
 use Rattle.guarantee.specs.Claim.{_also_, Any, OpenAt, here, none, there}
 use Rattle.guarantee.specs.Log.{Op, Run, accepted, after, delivering, follow, losing, next, noted, ofConsole, opened, start, upAfter}
 use Rattle.guarantee.proofs.Lists.{Each, all-each, all-imp, any-each, each-map}
@@ -30,8 +30,7 @@ use Rattle.guarantee.proofs.States.{asking-waits, contra, turns}
 use Rattle.guarantee.proofs.Shapes.{m-is, n-is}
 use Rattle.guarantee.proofs.Views.{Begun, Consoles-down, Nodes-turn, Ranged, begins, consoles-down, delivered, did-begin, did-console, did-node, fresh-made, no-begin, no-console, no-node, nodes-down}
 use Rattle.guarantee.proofs.Boards.{BoardOk, Good, TagKind, beside-console, board-up}
-use Rattle.guarantee.proofs.Consoles.{Fair, hears-kind, next-good, waits}
-use Rattle.guarantee.proofs.Spent.{earlier}
+use Rattle.guarantee.proofs.Consoles.{Fair, hears-kind, next-good}
 use Rattle.guarantee.proofs.Effects.{Own, ends-now, goesOn, going, reply-kind, turns-now}
 use Rattle.guarantee.proofs.Deliveries.{Chooses, StepEffect, deliver-effect, effect, effect-ok, refusal}
 use Rattle.guarantee.proofs.Starts.{Begins, begin-effect, down-ok, down-state, down-ups, fresh-console, fresh-node, fresh-ok, node-ok, node-side, node-ups}

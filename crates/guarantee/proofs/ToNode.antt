@@ -5,18 +5,18 @@ use mathlib.Core.Logic.{inl, inr, _⊎_}
 use mathlib.Core.Path.{refl, ap, _≡_}
 use native.Mathlib.Omega.{arith}
 use Rattle.parts.specs.AnsweredSet.{member}
-use Rattle.parts.specs.Changes.{taken}
 use Rattle.parts.specs.Parts.{isAsking, isTelling, isWaiting}
 use Rattle.parts.specs.declared.Frame.{Frame}
 use Rattle.parts.specs.declared.Frame.the-variants.{Ack, Ask, Nothing, Put, Reply}
 use Rattle.parts.specs.declared.Node.{Node}
+use Rattle.parts.specs.declared.Outcome.{Outcome}
+use Rattle.parts.specs.declared.Outcome.the-variants.{Discarded, Handed}
 use Rattle.parts.specs.declared.Setup.{Setup}
 use Rattle.parts.specs.declared.Tag.{Tag}
+use Rattle.changes.specs.Changes.{taken}
 use Rattle.board.specs.Answers.{answer}
 use Rattle.board.specs.Boards.{consoleAt, frameAt, nodeAt, withFrame, withNode}
 use Rattle.board.specs.declared.Board.{Board}
-use Rattle.board.specs.declared.Outcome.{Outcome}
-use Rattle.board.specs.declared.Outcome.the-variants.{Discarded, Handed}
 use Rattle.guarantee.proofs.Tags.{key}
 use Rattle.guarantee.proofs.States.{asking-waits, contra, telling-waits, waiting-cases}
 use Rattle.guarantee.proofs.Shapes.{node-same, nodes-with, shape-frame}

@@ -1,5 +1,4 @@
 -- What each step's answer can be, with the facts that lead there. Later proofs split on these and never on a step's text.
--- a question answered yes
 use Prim.Native.Nat.{ℕ, _≤_, _<_}
 use mathlib.Core.Bool.{Bool, true, false, not}
 use mathlib.Core.List.{List, _∷_, []}
@@ -7,18 +6,20 @@ use mathlib.Core.Path.{refl, _≡_}
 use native.Mathlib.Omega.{arith}
 use borrow.Author.Tests.{ltb-true, ltb-false, le-leb}
 use lib.Dec.{ltb}
+use Rattle.parts.proofs.FiniteLaws.{implied}
 use Rattle.parts.specs.AnsweredSet.{insert, member, size}
-use Rattle.parts.specs.Changes.{acked, awaits, hears, rests, taken, withUp}
 use Rattle.parts.specs.Limits.{maxTs}
 use Rattle.parts.specs.Parts.{isAsking, isNothing, isTelling, writes}
 use Rattle.parts.specs.Sizes.{askSize, tellSize}
 use Rattle.parts.specs.declared.Frame.{Frame}
 use Rattle.parts.specs.declared.Frame.the-variants.{Ack, Ask, Nothing, Put, Reply}
 use Rattle.parts.specs.declared.Kind.{Kind}
+use Rattle.parts.specs.declared.Outcome.the-variants.{Discarded, Done, Finished, Handed, Heard, Turned}
 use Rattle.parts.specs.declared.Setup.{Setup}
 use Rattle.parts.specs.declared.State.the-variants.{Down, Idle}
 use Rattle.parts.specs.declared.Tag.{Tag}
 use Rattle.checks.specs.Clauses.{consolesAllowed, nodesAllowed}
+use Rattle.changes.specs.Changes.{acked, awaits, hears, rests, taken, withUp}
 use Rattle.board.specs.Answers.{Question, answer, guarded, refuse}
 use Rattle.board.specs.Boards.{consoleAt, frameAt, freshBoard, nodeAt, withConsole, withFrame, withNode}
 use Rattle.board.specs.Deliver.{acknowledged, deliver, discards, heard, onAck, onAsk, onFrame, onPut, onReply, replied, toNode, turned}
@@ -26,12 +27,12 @@ use Rattle.board.specs.Questions.{console-is-idle, console-is-up, has-allowed-c
 use Rattle.board.specs.Steps.{begin, begun, consoleDown, fresh, nodeDown, smallest}
 use Rattle.board.specs.declared.Answer.{Answer}
 use Rattle.board.specs.declared.Board.{Board}
-use Rattle.board.specs.declared.Outcome.the-variants.{Discarded, Done, Finished, Handed, Heard, Turned}
 use Rattle.guarantee.specs.Claim.{_also_, All, none}
 use Rattle.guarantee.proofs.Lists.{all-head}
 use Rattle.guarantee.proofs.Sizes.{Allowed}
-use Rattle.guarantee.proofs.States.{both, contra, idle-is, implied, split, split-but}
+use Rattle.guarantee.proofs.States.{both, contra, idle-is, split, split-but}
 
+-- a question answered yes
 abbrev pub Yes : Question → Type 0
 Yes q = q .yes ≡ true
 

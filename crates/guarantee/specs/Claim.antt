@@ -1,15 +1,17 @@
--- Demand 3, as document 01's 'What demand 3 speaks of' reads it: one claim about a whole run of n nodes and m consoles.
+-- Demand 3, as document 01's 'What demand 3 speaks of' reads it: one claim about every run from a fresh board of any allowed
+-- size. proofs/Theorem.antt proves it.
 use Prim.Native.Nat.{ℕ, _+_, _*_, _≤_, _<_}
 use mathlib.Core.Bool.{true, false}
 use mathlib.Core.List.{List, [], _∷_}
 use mathlib.Core.Path.{_≡_}
 use Rattle.parts.specs.Finite.{count}
 use Rattle.parts.specs.Tags.{greater}
+use Rattle.parts.specs.Limits.{maxNodes, maxConsoles}
 use Rattle.parts.specs.Sizes.{majority}
 use Rattle.parts.specs.Parts.{isWaiting}
 use Rattle.board.specs.Boards.{consoleAt}
-use Rattle.board.specs.Deliver.{deliver}
-use Rattle.guarantee.specs.Log.{Op, Open, Complete, accepted, Run}
+use Rattle.board.specs.Runs.{Step, Deliver, step}
+use Rattle.guarantee.specs.Log.{Op, Open, Complete, accepted, Run, run, writesBegun}
 
 -- each member of the list, and some member
 pub data All {A : Type 0} (P : A → Type 0) : List A → Type 0 where
@@ -36,7 +38,7 @@ Waits m r c = (c < m) × (isWaiting (consoleAt (r .board) c .state) ≡ true)
 -- a console 'has a frame that can be delivered if, for some node, a deliver of that console and node as the next step
 -- would be accepted'
 abbrev pub HasDeliverable : ℕ → Run → ℕ → Type 0
-HasDeliverable n r c = (k : ℕ) × (k < n) × (accepted (deliver (r .board) c k .outcome) ≡ true)
+HasDeliverable n r c = (k : ℕ) × (k < n) × (accepted (step (r .board) (Deliver c k) .outcome) ≡ true)
 
 -- two finished operations, 'one's finish before the other's begin'
 abbrev pub FinishedBefore : Op → Op → Type 0
@@ -57,3 +59,12 @@ pub record Demand3 (n m : ℕ) (r : Run) : Type 0 where
   -- 'every finished operation's final tag is no lower than that of any operation finished before it began, and higher if
   -- it wrote'
   pub freshness : All (λ y. All (λ x. FinishedBefore x y → Fresher x y) (r .ops)) (r .ops)
+
+-- 'with at most 4,000,000,000 writes begun'
+abbrev pub maxWrites : ℕ
+maxWrites = 4000000000
+
+-- 'For every list of begin reads, begin writes, deliveries, node downs and console downs, refused ones included, from a fresh
+-- board of any allowed size'
+abbrev pub Claim : Type 0
+Claim = (n m : ℕ) → 1 ≤ n → n ≤ maxNodes → 1 ≤ m → m ≤ maxConsoles → (ss : List Step) → writesBegun (run n m ss) ≤ maxWrites → Demand3 n m (run n m ss)

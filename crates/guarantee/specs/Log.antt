@@ -7,8 +7,8 @@ use Rattle.parts.specs.declared.Tag.{Tag}
 use Rattle.parts.specs.Finite.{one}
 use Rattle.parts.specs.Tags.{zeroTag}
 use Rattle.board.specs.declared.Board.{Board}
-use Rattle.board.specs.declared.Outcome.{Outcome}
-use Rattle.board.specs.declared.Outcome.the-variants.{Refused, Done, Handed, Heard, Turned, Finished, Discarded}
+use Rattle.parts.specs.declared.Outcome.{Outcome}
+use Rattle.parts.specs.declared.Outcome.the-variants.{Refused, Done, Handed, Heard, Turned, Finished, Discarded}
 use Rattle.board.specs.declared.Answer.{Answer}
 use Rattle.board.specs.Steps.{setupOf, fresh}
 use Rattle.board.specs.Runs.{Step, BeginRead, BeginWrite, Deliver, NodeDown, ConsoleDown, step}
@@ -27,7 +27,8 @@ isOpen Complete = false
 isOpen Lost = false
 
 -- One operation. Places are counted from 1. ended is the place of its finish, 0 without one; tag and value are the final
--- ones, (0, 0) and 0 without a finish. turned says whether a delivery has turned it. took counts its deliveries.
+-- ones, (0, 0) and 0 without a finish. took counts its deliveries. turned says whether one of them gave turned: the proof
+-- counts writes by it.
 pub record Op : Type 0 where
   pub console : ℕ
   pub wrote : Bool
@@ -65,13 +66,13 @@ turning x = record { console = x .console; wrote = x .wrote; began = x .began; t
 
 -- counted, and closed: 'a deliver naming its console that gives finished, whose tag is its final tag'
 abbrev pub finishing : ℕ → Tag → ℕ → Op → Op
-finishing i t v x = record { console = x .console; wrote = x .wrote; began = x .began; took = x .took + 1; turned = true; status = Complete; ended = i; tag = t; value = v }
+finishing i t v x = record { console = x .console; wrote = x .wrote; began = x .began; took = x .took + 1; turned = x .turned; status = Complete; ended = i; tag = t; value = v }
 
 -- closed: 'an accepted console down of its console, which ends it unfinished'
 abbrev pub losing : Op → Op
 losing x = record { console = x .console; wrote = x .wrote; began = x .began; took = x .took; turned = x .turned; status = Lost; ended = x .ended; tag = x .tag; value = x .value }
 
--- an accepted deliver naming the operation's console, by its outcome
+-- an accepted deliver naming the operation's console, by its outcome; a refused one does not come here
 abbrev pub delivering : ℕ → Outcome → Op → Op
 delivering i Refused x = x
 delivering i Done x = counted x

@@ -1,16 +1,17 @@
--- Runs that reach the limits of the claim, and what their logs must be. proofs/ReachedHold.antt computes them.
+-- Runs that reach the limits of the claim, or go through what the P runs leave out, and what their logs must be.
+-- proofs/ReachedHold.antt computes them.
 use Prim.Native.Nat.{ℕ}
 use mathlib.Core.Bool.{true, false}
 use mathlib.Core.List.{List, [], _∷_}
 use Rattle.parts.specs.declared.Tag.{Tag}
 use Rattle.parts.specs.Tags.{zeroTag}
-use Rattle.board.specs.Runs.{Step, BeginRead, BeginWrite, Deliver, NodeDown}
-use Rattle.guarantee.specs.Log.{Op, Open, Complete}
+use Rattle.board.specs.Runs.{Step, BeginRead, BeginWrite, Deliver, NodeDown, ConsoleDown}
+use Rattle.guarantee.specs.Log.{Op, Open, Complete, Lost}
 
 abbrev one-one : Tag
 one-one = record { ts = 1; console = 1 }
 
--- P4, on three nodes: 3 + 2 + 3 + 2 deliveries, which is 2 (n + q)
+-- P4, on three nodes and two consoles: 3 + 2 + 3 + 2 deliveries, which is 2 (n + q)
 unfoldable pub p4-steps : List Step
 p4-steps =
     BeginWrite 1 7
@@ -29,7 +30,8 @@ p4-steps =
 unfoldable pub p4-log : List Op
 p4-log = record { console = 1; wrote = true; began = 1; took = 10; turned = true; status = Complete; ended = 11; tag = one-one; value = 7 } ∷ []
 
--- the first extra: after P2 a delivery on (1, 1) is handed, and the next one discarded; the operation is closed by then
+-- the first extra, on three nodes and two consoles: after P2 a delivery on (1, 1) is handed, and the next one discarded; the
+-- operation is closed by then
 unfoldable pub late-steps : List Step
 late-steps =
     BeginWrite 1 7
@@ -48,7 +50,7 @@ late-steps =
 unfoldable pub late-log : List Op
 late-log = record { console = 1; wrote = true; began = 1; took = 8; turned = true; status = Complete; ended = 9; tag = one-one; value = 7 } ∷ []
 
--- the second extra, on three nodes: nodes 0 and 1 are down, and the console waits after node 2's answer
+-- the second extra, on three nodes and one console: nodes 0 and 1 are down, and the console waits after node 2's answer
 unfoldable pub stuck-steps : List Step
 stuck-steps = NodeDown 0 ∷ NodeDown 1 ∷ BeginRead 0 ∷ Deliver 0 2 ∷ Deliver 0 2 ∷ []
 
@@ -58,3 +60,37 @@ stuck-log = record { console = 0; wrote = false; began = 3; took = 2; turned = f
 -- what delivering to each of its nodes as the next step would be refused with
 unfoldable pub stuck-refusals : List ℕ
 stuck-refusals = 9 ∷ 9 ∷ 8 ∷ []
+
+-- on one node and two consoles: refused begins and deliveries, two operations of one console, a console down without an
+-- operation and one that ends an operation
+unfoldable pub mixed-steps : List Step
+mixed-steps =
+    BeginWrite 0 5
+    ∷ BeginWrite 0 6
+    ∷ Deliver 0 0
+    ∷ Deliver 0 0
+    ∷ Deliver 0 0
+    ∷ Deliver 0 0
+    ∷ Deliver 0 0
+    ∷ BeginRead 0
+    ∷ Deliver 0 0
+    ∷ Deliver 0 0
+    ∷ Deliver 0 0
+    ∷ Deliver 0 0
+    ∷ ConsoleDown 1
+    ∷ BeginRead 1
+    ∷ BeginWrite 0 9
+    ∷ Deliver 0 0
+    ∷ ConsoleDown 0
+    ∷ Deliver 0 0
+    ∷ []
+
+abbrev one-zero : Tag
+one-zero = record { ts = 1; console = 0 }
+
+unfoldable pub mixed-log : List Op
+mixed-log =
+    record { console = 0; wrote = true; began = 15; took = 1; turned = false; status = Lost; ended = 0; tag = zeroTag; value = 0 }
+    ∷ record { console = 0; wrote = false; began = 8; took = 4; turned = true; status = Complete; ended = 12; tag = one-zero; value = 5 }
+    ∷ record { console = 0; wrote = true; began = 1; took = 4; turned = true; status = Complete; ended = 6; tag = one-zero; value = 5 }
+    ∷ []

@@ -1,4 +1,4 @@
--- Laws of tests: what branch facts say of them, of a test over the numbers below n, and of 'and'.
+-- Laws of tests: what branch facts say of them, of 'and' and 'implies', and of a test over the numbers below n.
 -- A loop that tests each number cites every-none, every-more, every-fails and every-done.
 use mathlib.Core.Path.{_≡_, refl, sym, _∙_}
 use mathlib.Core.Bool.{Bool, true, false, not, _&&_}
@@ -7,7 +7,7 @@ use native.Mathlib.Numerals.{add-one}
 use native.Mathlib.Omega.{arith}
 use borrow.Author.Tests.{not-true, not-false, eqb-true, eqb-false, le-ltb, lt-ltb, le-leb, lt-leb, eq-eqb, ne-eqb}
 use lib.Dec.{eqb}
-use Rattle.parts.specs.Finite.{every}
+use Rattle.parts.specs.Finite.{_implies_, every}
 
 -- a test of numbers from the fact that a branch knows
 pub ruleset tests = (le-ltb, lt-ltb, le-leb, lt-leb, eq-eqb, ne-eqb)
@@ -30,6 +30,10 @@ and-right false y h = cc
 and-false : (x y : Bool) → y ≡ false → (x && y) ≡ false
 and-false true y h = h
 and-false false y h = refl
+
+pub implied : (x y : Bool) → (x implies y) ≡ true → x ≡ true → y ≡ true
+implied true y h e = h
+implied false y h e = cc
 
 pub every-none : (p : ℕ → Bool) → every 0 p ≡ true
 unfolding every

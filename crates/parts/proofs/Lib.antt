@@ -2,3 +2,4 @@
 pub mod FiniteLaws
 pub mod AnsweredLaws
 pub mod PartsLaws
+pub mod SizesLaws

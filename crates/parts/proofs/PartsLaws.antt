@@ -10,8 +10,8 @@ use lib.ListN.{length, getD}
 use Rattle.parts.specs.declared.Frame.{Frame}
 use Rattle.parts.specs.declared.Cell.{Cell}
 use Rattle.parts.specs.declared.Node.{Node}
+use Rattle.parts.specs.Tags.{zeroTag}
 use Rattle.parts.specs.Parts.{freshNode, nodeIn, setFrame, setRow}
-use Rattle.parts.specs.Changes.{withUp}
 
 -- within a list it does not matter what stands for an element beyond its end
 getD-within : {A : Type 0} (xs : List A) (i : ℕ) (d e : A) → i < length xs → getD xs i d ≡ getD xs i e
@@ -19,10 +19,14 @@ getD-within [] i d e h = absurd (omega arith)
 getD-within (x ∷ xs) zero d e h = refl
 getD-within (x ∷ xs) (suc i) d e h = getD-within xs i d e (le-of-suc-le-suc h)
 
--- the code reads a node of zeros, which is down, beyond the list; within it that makes no difference
-pub node-read : (xs : List Node) (k : ℕ) → k < length xs → getD xs k (withUp false freshNode) ≡ nodeIn xs k
-unfolding nodeIn withUp
-node-read xs k h = getD-within xs k (withUp false freshNode) freshNode h
+-- a node of zeros: down, with tag (0, 0) and value 0
+abbrev pub zeroNode : Node
+zeroNode = record { up = false; tag = zeroTag; value = 0 }
+
+-- the code reads a node of zeros, beyond the list; within it that makes no difference
+pub node-read : (xs : List Node) (k : ℕ) → k < length xs → getD xs k zeroNode ≡ nodeIn xs k
+unfolding nodeIn
+node-read xs k h = getD-within xs k zeroNode freshNode h
 
 -- one cell more of a row
 pub row-more : (xs : List Cell) (c k : ℕ) (f : Frame) → setFrame (setRow xs c k f) c k f ≡ setRow xs c (k + 1) f

@@ -5,4 +5,4 @@ pub mod Tags
 pub mod AnsweredSet
 pub mod Sizes
 pub mod Parts
-pub mod Changes
+pub mod Outcomes

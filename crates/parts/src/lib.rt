@@ -79,9 +79,21 @@ pub struct Setup {
     pub m: u32,
 }
 
+// Document 01's outcome. Only a finished operation's carries a tag and a value.
+pub enum Outcome {
+    Refused,
+    Done,
+    Handed,
+    Heard,
+    Turned,
+    Finished(Tag, u32),
+    Discarded,
+}
+
 pub mod answered;
 pub mod cases;
 pub mod cells;
 pub mod nodes;
 pub mod order;
+pub mod outcomes;
 pub mod sizes;

@@ -5,8 +5,6 @@ use Rattle.parts.specs.Parts.{consoleIn}
 use Rattle.board.proofs.Board.console_at.Statement.{statement}
 use Rattle.board.proofs.Board.console_at.Tie as tie
 
--- The code is the definition.
-
 cast-at : tie.Need-cast-at
 cast-at c = search needs
 

@@ -4,8 +4,6 @@ use Rattle.board.specs.Boards.{frameAt}
 use Rattle.board.proofs.Board.frame_at.Statement.{statement}
 use Rattle.board.proofs.Board.frame_at.Tie as tie
 
--- The frame among the cells is the board's.
-
 frame-in-requires : tie.Need-frame-in-requires
 frame-in-requires c κs = search needs
 

@@ -4,7 +4,7 @@ use borrow.Author.Needs.{needs}
 use Rattle.board.proofs.AnswersLaws.{guarded-no, guarded-yes, guarded-end}
 use Rattle.board.specs.Answers.{answer, refuse}
 use Rattle.board.specs.Steps.{fresh}
-use Rattle.board.specs.declared.Outcome.the-variants.{Done}
+use Rattle.parts.specs.declared.Outcome.the-variants.{Done}
 use Rattle.parts.proofs.FiniteLaws.{said-no, said-yes}
 use Rattle.board.proofs.Board.fresh.Statement.{statement}
 use Rattle.board.proofs.Board.fresh.Tie as tie

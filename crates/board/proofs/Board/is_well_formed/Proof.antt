@@ -5,8 +5,6 @@ use Rattle.parts.proofs.FiniteLaws.{said-no, said-yes}
 use Rattle.board.proofs.Board.is_well_formed.Statement.{statement}
 use Rattle.board.proofs.Board.is_well_formed.Tie as tie
 
--- The setup, the nodes, the consoles and the cells are tested in the definition's order.
-
 is-setup-ok-requires : tie.Need-is-setup-ok-requires
 is-setup-ok-requires c κs = search needs
 

@@ -4,8 +4,6 @@ use Rattle.board.specs.Boards.{freshBoard}
 use Rattle.board.proofs.Board.made.Statement.{statement}
 use Rattle.board.proofs.Board.made.Tie as tie
 
--- The code is the definition.
-
 returns : tie.Need-returns
 unfolding freshBoard
 returns c = search needs

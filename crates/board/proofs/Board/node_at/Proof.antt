@@ -4,8 +4,6 @@ use Rattle.board.specs.Boards.{nodeAt}
 use Rattle.board.proofs.Board.node_at.Statement.{statement}
 use Rattle.board.proofs.Board.node_at.Tie as tie
 
--- The node among the nodes is the board's.
-
 node-in-requires : tie.Need-node-in-requires
 node-in-requires c κs = search needs
 

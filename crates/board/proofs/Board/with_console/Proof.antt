@@ -4,8 +4,6 @@ use Rattle.board.specs.Boards.{withConsole}
 use Rattle.board.proofs.Board.with_console.Statement.{statement}
 use Rattle.board.proofs.Board.with_console.Tie as tie
 
--- The code is the definition.
-
 cast-i : tie.Need-cast-i
 cast-i c = search needs
 

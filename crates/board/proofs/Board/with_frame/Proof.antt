@@ -4,8 +4,6 @@ use Rattle.board.specs.Boards.{withFrame}
 use Rattle.board.proofs.Board.with_frame.Statement.{statement}
 use Rattle.board.proofs.Board.with_frame.Tie as tie
 
--- Only the cells change, as with_frame_in says.
-
 with-frame-in-requires : tie.Need-with-frame-in-requires
 with-frame-in-requires c κs = search needs
 

@@ -4,8 +4,6 @@ use Rattle.board.specs.Boards.{withNode}
 use Rattle.board.proofs.Board.with_node.Statement.{statement}
 use Rattle.board.proofs.Board.with_node.Tie as tie
 
--- The code is the definition.
-
 cast-i : tie.Need-cast-i
 cast-i c = search needs
 

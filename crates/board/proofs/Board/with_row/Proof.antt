@@ -4,8 +4,6 @@ use Rattle.board.specs.Boards.{withRow}
 use Rattle.board.proofs.Board.with_row.Statement.{statement}
 use Rattle.board.proofs.Board.with_row.Tie as tie
 
--- Only the cells change, as with_row_in says.
-
 with-row-in-requires : tie.Need-with-row-in-requires
 with-row-in-requires c κs = search needs
 

@@ -6,7 +6,6 @@ use native.Mathlib.Omega.{arith}
 use borrow.Author.Needs.{needs}
 use Rattle.parts.proofs.FiniteLaws.{said-no, said-yes, every-none, every-more, every-fails, every-done}
 use Rattle.parts.proofs.PartsLaws.{node-read}
-use Rattle.parts.specs.Changes.{withUp}
 use Rattle.parts.specs.Finite.{every}
 use Rattle.parts.specs.Limits.{maxNodes}
 use Rattle.parts.specs.Parts.{nodeIn}
@@ -36,7 +35,7 @@ is-node-ok-requires : tie.Need-is-node-ok-requires Inv-loop μ-loop
 is-node-ok-requires c κs = search needs
 
 returns : tie.Need-returns Inv-loop μ-loop
-unfolding nodesOk withUp
+unfolding nodesOk
 returns c = sym (every-fails _ _ _ (c .before .before .before .loop-test .taken) (said-no (c .before .is-node-ok .ensures ∙ ap (nodeOk _ _) (node-read _ _ (omega arith))) (c .if1 .taken)))
 
 add-k : tie.Need-add-k Inv-loop μ-loop
@@ -46,7 +45,6 @@ loop-less : tie.Need-loop-less Inv-loop μ-loop
 loop-less c = search needs
 
 loop-again : tie.Need-loop-again Inv-loop μ-loop
-unfolding withUp
 loop-again c = (search needs, every-more _ _ (c .before .before .before .before .loop .inv .1) (said-yes (c .before .is-node-ok .ensures ∙ ap (nodeOk _ _) (node-read _ _ (omega arith))) (c .if1 .left)))
 
 returns-2 : tie.Need-returns-2 Inv-loop μ-loop

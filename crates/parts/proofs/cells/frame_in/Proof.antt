@@ -1,5 +1,4 @@
 -- The place is within the forty cells, and the frame there is the definition's.
-use native.Mathlib.Omega.{arith}
 use borrow.Author.Needs.{needs}
 use Rattle.parts.specs.Parts.{place, frameIn}
 use Rattle.parts.proofs.cells.frame_in.Statement.{statement}

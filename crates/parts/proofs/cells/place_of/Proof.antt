@@ -4,8 +4,6 @@ use Rattle.parts.specs.Parts.{place}
 use Rattle.parts.proofs.cells.place_of.Statement.{statement}
 use Rattle.parts.proofs.cells.place_of.Tie as tie
 
--- The code is the definition.
-
 mul-result : tie.Need-mul-result
 mul-result c = search needs
 

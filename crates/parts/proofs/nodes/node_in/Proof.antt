@@ -2,7 +2,6 @@
 use native.Mathlib.Omega.{arith}
 use borrow.Author.Needs.{needs}
 use Rattle.parts.proofs.PartsLaws.{node-read}
-use Rattle.parts.specs.Changes.{withUp}
 use Rattle.parts.proofs.nodes.node_in.Statement.{statement}
 use Rattle.parts.proofs.nodes.node_in.Tie as tie
 
@@ -16,7 +15,6 @@ array-copy-out-result : tie.Need-array-copy-out-result
 array-copy-out-result c = search needs
 
 returns : tie.Need-returns
-unfolding withUp
 returns c = node-read _ _ (omega arith)
 
 pub node-in-spec : {M : Type 1} → statement M

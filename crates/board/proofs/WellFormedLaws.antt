@@ -1,0 +1,96 @@
+-- What a well-formed board gives the steps: its sizes are within the limits, and every tag that a delivery compares has a
+-- console number below 8.
+use Prim.Native.Nat.{ℕ, _≤_, _<_}
+use mathlib.Core.Bool.{true, _&&_}
+use mathlib.Core.Path.{_≡_}
+use native.Mathlib.Omega.{arith}
+use borrow.Author.Tests.{leb-true, ltb-true, lt-ltb}
+use lib.Dec.{leb, ltb}
+use Rattle.parts.specs.declared.Tag.{Tag}
+use Rattle.parts.specs.declared.Frame.the-variants.{Reply, Put}
+use Rattle.parts.specs.declared.Setup.{Setup}
+use Rattle.parts.specs.Limits.{maxTs}
+use Rattle.parts.proofs.FiniteLaws.{and-left, and-right, every-at}
+use Rattle.checks.specs.Clauses.{nodesAllowed, consolesAllowed, setupOk, tagOk, nodeOk, nodesOk, consoleOk, consolesOk, frameOk, cellOk, rowOk, cellsOk}
+use Rattle.board.specs.declared.Board.{Board}
+use Rattle.board.specs.Boards.{nodeAt, consoleAt, frameAt}
+use Rattle.board.specs.WellFormed.{wellFormed}
+use Rattle.board.specs.InRange.{InRange}
+
+tag-below : (σ : Setup) (t : Tag) (v : ℕ) → tagOk σ t v ≡ true → t .console < σ .m
+unfolding tagOk
+tag-below σ t v h = ltb-true (t .console) (σ .m) (and-right (leb (t .ts) maxTs) _ (and-left (leb (t .ts) maxTs && ltb (t .console) (σ .m)) _ h))
+
+module _ (b : Board) (h : wellFormed b ≡ true) where
+  setup-part : setupOk (b .setup) ≡ true
+  unfolding wellFormed
+  setup-part = and-left (setupOk (b .setup)) _ (and-left (setupOk (b .setup) && nodesOk (b .setup) (b .nodes)) _ (and-left (setupOk (b .setup) && nodesOk (b .setup) (b .nodes) && consolesOk (b .setup) (b .consoles)) _ h))
+
+  nodes-part : nodesOk (b .setup) (b .nodes) ≡ true
+  unfolding wellFormed
+  nodes-part = and-right (setupOk (b .setup)) _ (and-left (setupOk (b .setup) && nodesOk (b .setup) (b .nodes)) _ (and-left (setupOk (b .setup) && nodesOk (b .setup) (b .nodes) && consolesOk (b .setup) (b .consoles)) _ h))
+
+  consoles-part : consolesOk (b .setup) (b .consoles) ≡ true
+  unfolding wellFormed
+  consoles-part = and-right (setupOk (b .setup) && nodesOk (b .setup) (b .nodes)) _ (and-left (setupOk (b .setup) && nodesOk (b .setup) (b .nodes) && consolesOk (b .setup) (b .consoles)) _ h)
+
+  cells-part : cellsOk (b .setup) (b .cells) ≡ true
+  unfolding wellFormed
+  cells-part = and-right (setupOk (b .setup) && nodesOk (b .setup) (b .nodes) && consolesOk (b .setup) (b .consoles)) _ h
+
+  pub n-at-most : b .setup .n ≤ 5
+  unfolding setupOk nodesAllowed
+  n-at-most = leb-true (b .setup .n) 5 (and-right (leb 1 (b .setup .n)) _ (and-left (leb 1 (b .setup .n) && leb (b .setup .n) 5) _ setup-part))
+
+  pub m-at-most : b .setup .m ≤ 8
+  unfolding setupOk consolesAllowed nodesAllowed
+  m-at-most = leb-true (b .setup .m) 8 (and-right (leb 1 (b .setup .m)) _ (and-right (leb 1 (b .setup .n) && leb (b .setup .n) 5) _ setup-part))
+
+  module _ (c k : ℕ) (cm : c < b .setup .m) (kn : k < b .setup .n) where
+    node-passes : nodeOk (b .setup) k (nodeAt b k) ≡ true
+    unfolding nodesOk nodeAt
+    node-passes = every-at (λ k. nodeOk (b .setup) k (nodeAt b k)) 5 nodes-part k (omega (arith, n-at-most))
+
+    node-tag : tagOk (b .setup) (nodeAt b k .tag) (nodeAt b k .value) ≡ true
+    unfolding nodeOk
+    node-tag = rw (lt-ltb k (b .setup .n) kn) at node-passes
+
+    console-passes : consoleOk (b .setup) c (consoleAt b c) ≡ true
+    unfolding consolesOk consoleAt
+    console-passes = every-at (λ c. consoleOk (b .setup) c (consoleAt b c)) 8 consoles-part c (omega (arith, m-at-most))
+
+    best-tag : tagOk (b .setup) (consoleAt b c .best) (consoleAt b c .value) ≡ true
+    unfolding consoleOk
+    best-tag = and-left (tagOk (b .setup) (consoleAt b c .best) (consoleAt b c .value)) _ (rw (lt-ltb c (b .setup .m) cm) at console-passes)
+
+    row-passes : rowOk (b .setup) (b .cells) c ≡ true
+    unfolding cellsOk
+    row-passes = every-at (rowOk (b .setup) (b .cells)) 8 cells-part c (omega (arith, m-at-most))
+
+    cell-passes : cellOk (b .setup) c k (frameAt b c k) ≡ true
+    unfolding rowOk frameAt
+    cell-passes = every-at (λ k. cellOk (b .setup) c k (frameAt b c k)) 5 row-passes k (omega (arith, n-at-most))
+
+    frame-passes : frameOk (b .setup) (frameAt b c k) ≡ true
+    unfolding cellOk
+    frame-passes = rw (lt-ltb c (b .setup .m) cm, lt-ltb k (b .setup .n) kn) at cell-passes
+
+    -- ---- the console numbers of the tags that a delivery compares
+
+    pub node-below : nodeAt b k .tag .console < 8
+    node-below = omega (arith, tag-below (b .setup) (nodeAt b k .tag) (nodeAt b k .value) node-tag, m-at-most)
+
+    pub best-below : consoleAt b c .best .console < 8
+    best-below = omega (arith, tag-below (b .setup) (consoleAt b c .best) (consoleAt b c .value) best-tag, m-at-most)
+
+    pub reply-below : (t : Tag) (v : ℕ) → frameAt b c k ≡ Reply t v → t .console < 8
+    unfolding frameOk
+    reply-below t v e = omega (arith, tag-below (b .setup) t v (rw e at frame-passes), m-at-most)
+
+    pub put-below : (t : Tag) (v : ℕ) → frameAt b c k ≡ Put t v → t .console < 8
+    unfolding frameOk
+    put-below t v e = omega (arith, tag-below (b .setup) t v (rw e at frame-passes), m-at-most)
+
+-- what deliver has found puts its numbers within the lists
+pub within : {b : Board} {c k : ℕ} → InRange b c k → (c < 8) × (k < 5) × (b .setup .n ≤ 5)
+within {b} d = omega (arith, d .c-m, d .k-n, m-at-most b (d .formed), n-at-most b (d .formed))

@@ -1,0 +1,60 @@
+-- The set's size decides, then question 10, as in the definition.
+use mathlib.Core.Path.{sym, ap, _∙_}
+use borrow.Author.Needs.{needs}
+use borrow.Author.Tests.{lt-ltb, le-ltb, ltb-true}
+use Rattle.board.proofs.AnswersLaws.{guarded-no, guarded-yes, guarded-end}
+use Rattle.board.proofs.WellFormedLaws.{within}
+use Rattle.board.specs.Answers.{answer}
+use Rattle.board.specs.Deliver.{replied}
+use Rattle.parts.specs.declared.Outcome.the-variants.{Turned}
+use Rattle.parts.proofs.FiniteLaws.{said-no, said-yes, implied}
+use Rattle.board.proofs.delivery.take_reply.Statement.{statement}
+use Rattle.board.proofs.delivery.take_reply.Tie as tie
+
+set-size-requires : tie.Need-set-size-requires
+set-size-requires c κs = search needs
+
+ask-size-requires : tie.Need-ask-size-requires
+ask-size-requires c κs = search needs
+
+hear-requires : tie.Need-hear-requires
+hear-requires c κs = search needs
+
+returns : tie.Need-returns
+unfolding replied
+returns c = simp (sym (c .before .before .before .set-size .ensures), sym (c .before .before .ask-size .ensures), lt-ltb _ _ (c .before .if1 .taken)) (c .hear .ensures)
+
+has-next-requires : tie.Need-has-next-requires
+has-next-requires c κs = search needs
+
+refused-requires : tie.Need-refused-requires
+refused-requires c κs = search needs
+
+returns-2 : tie.Need-returns-2
+unfolding replied
+returns-2 c = simp (sym (c .before .before .before .before .before .set-size .ensures), sym (c .before .before .before .before .ask-size .ensures), le-ltb _ _ (c .before .before .before .if1 .left)) (c .refused .ensures ∙ sym (guarded-no _ _ _ _ (said-no (c .before .before .has-next .ensures) (c .before .if2 .taken))))
+
+turned-at-requires : tie.Need-turned-at-requires
+turned-at-requires c κs = ((within (c .before .before .before .before .before .pre) .0, within (c .before .before .before .before .before .pre) .2), λ w. ltb-true _ _ (implied _ _ (said-yes (c .before .has-next .ensures) (c .if2 .left)) w))
+
+accepted-requires : tie.Need-accepted-requires
+accepted-requires c κs = search needs
+
+returns-3 : tie.Need-returns-3
+unfolding replied
+returns-3 c = simp (sym (c .before .before .before .before .before .before .set-size .ensures), sym (c .before .before .before .before .before .ask-size .ensures), le-ltb _ _ (c .before .before .before .before .if1 .left)) (c .accepted .ensures ∙ ap (answer Turned) (c .before .turned-at .ensures) ∙ sym (guarded-yes _ _ _ _ (said-yes (c .before .before .before .has-next .ensures) (c .before .before .if2 .left)) ∙ guarded-end _ _))
+
+pub take-reply-spec : {M : Type 1} → statement M
+take-reply-spec =
+    tie.close
+    (tie.spec
+    set-size-requires
+    ask-size-requires
+    hear-requires
+    returns
+    has-next-requires
+    refused-requires
+    returns-2
+    turned-at-requires
+    accepted-requires
+    returns-3)

@@ -1,0 +1,20 @@
+-- The comparison decides, as in the definition.
+use mathlib.Core.Path.{sym, _∙_}
+use borrow.Author.Needs.{needs}
+use Rattle.changes.specs.Changes.{taken}
+use Rattle.changes.proofs.nodes.take_put.Statement.{statement}
+use Rattle.changes.proofs.nodes.take_put.Tie as tie
+
+is-greater-requires : tie.Need-is-greater-requires
+is-greater-requires c κs = search needs
+
+returns : tie.Need-returns
+unfolding taken
+returns c = rw (sym (c .before .is-greater .ensures (c .before .before .before .pre .1) (c .before .before .before .pre .0)) ∙ c .if1 .taken)
+
+returns-2 : tie.Need-returns-2
+unfolding taken
+returns-2 c = rw (sym (c .before .is-greater .ensures (c .before .before .before .pre .1) (c .before .before .before .pre .0)) ∙ c .if1 .left)
+
+pub take-put-spec : {M : Type 1} → statement M
+take-put-spec = tie.close (tie.spec is-greater-requires returns returns-2)

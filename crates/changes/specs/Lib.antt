@@ -1,0 +1,2 @@
+-- How the steps change a node and a console.
+pub mod Changes

@@ -1,0 +1,35 @@
+// The changes of a node.
+ghost use mathlib.Core.Path.{_≡_};
+ghost use Prim.Native.Nat.{_<_};
+ghost use Rattle.parts.specs.Limits.{maxConsoles};
+ghost use Rattle.changes.specs.Changes.{withUp, taken};
+use parts::Node;
+use parts::Tag;
+
+// The node, up or down, with its tag and value.
+pub fn set_up(x: Node, up: bool) -> Node
+    ensures { λ r. ⌜ r ≡ withUp up x ⌝ }
+{
+    let t = x.tag;
+    Node {
+        up: up,
+        tag: t,
+        value: x.value,
+    }
+}
+
+// The node after a put: with the greater tag and its value. Question 1 has found both console numbers to be below 8.
+pub fn take_put(x: Node, t: Tag, v: u32) -> Node
+    requires { ⌜ (x .tag .console < maxConsoles) × (t .console < maxConsoles) ⌝ }
+    ensures { λ r. ⌜ r ≡ taken x t v ⌝ }
+{
+    let own = x.tag;
+    if t.is_greater(own) {
+        return Node {
+            up: x.up,
+            tag: t,
+            value: v,
+        };
+    }
+    x
+}

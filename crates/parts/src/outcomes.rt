@@ -1,0 +1,54 @@
+// What an outcome says in document 01's numbers.
+ghost use mathlib.Core.Path.{_≡_};
+ghost use Rattle.parts.specs.Outcomes.{outcomeNumber, outcomeTag, outcomeValue};
+use crate::Outcome;
+use crate::Tag;
+
+const ZERO: Tag = Tag { ts: 0, console: 0 };
+
+impl Outcome {
+    // The number that an outcome is written as.
+    pub fn number(self) -> u32
+        ensures { λ r. ⌜ r ≡ outcomeNumber self ⌝ }
+    {
+        match self {
+            Outcome::Refused => 0,
+            Outcome::Done => 1,
+            Outcome::Handed => 2,
+            Outcome::Heard => 3,
+            Outcome::Turned => 4,
+            Outcome::Finished(_, _) => 5,
+            Outcome::Discarded => 6,
+        }
+    }
+
+    // The final tag of a finished operation; (0, 0) with any other outcome.
+    pub fn tag(self) -> Tag
+        ensures { λ r. ⌜ r ≡ outcomeTag self ⌝ }
+    {
+        match self {
+            Outcome::Refused => ZERO,
+            Outcome::Done => ZERO,
+            Outcome::Handed => ZERO,
+            Outcome::Heard => ZERO,
+            Outcome::Turned => ZERO,
+            Outcome::Finished(t, _) => t,
+            Outcome::Discarded => ZERO,
+        }
+    }
+
+    // The value of a finished operation; 0 with any other outcome.
+    pub fn value(self) -> u32
+        ensures { λ r. ⌜ r ≡ outcomeValue self ⌝ }
+    {
+        match self {
+            Outcome::Refused => 0,
+            Outcome::Done => 0,
+            Outcome::Handed => 0,
+            Outcome::Heard => 0,
+            Outcome::Turned => 0,
+            Outcome::Finished(_, v) => v,
+            Outcome::Discarded => 0,
+        }
+    }
+}
