@@ -1,0 +1,74 @@
+-- Laws of the calls.
+use Prim.Native.Nat.{ℕ, _≤_, _<_}
+use mathlib.Core.Bool.{Bool, true, false, cond}
+use mathlib.Core.List.{List}
+use mathlib.Core.Path.{_≡_, refl, sym, ap, _∙_}
+use native.Mathlib.Omega.{arith}
+use borrow.Author.Tests.{leb-true, leb-false, le-leb, ne-eqb, eq-eqb}
+use lib.Dec.{eqb, leb}
+use Rattle.board.specs.declared.Answer.{Answer}
+use Rattle.board.specs.declared.Board.{Board}
+use Rattle.bindings.specs.Words.{decoded, encoded}
+use Rattle.bindings.specs.Calls.{said, kept, shortBy, code, Called}
+
+-- ---- lengths
+
+pub short-board : (w s : ℕ) → w < 230 → 1 ≡ shortBy w s
+unfolding shortBy
+short-board w s l = go (leb 230 w) refl
+  where
+    go : (t : Bool) → leb 230 w ≡ t → 1 ≡ shortBy w s
+    go true e = absurd (omega (arith, leb-true 230 w e))
+    go false e = rw e
+
+pub short-answer : (w s : ℕ) → 230 ≤ w → s < 5 → 2 ≡ shortBy w s
+unfolding shortBy
+short-answer w s g l = go (leb 5 s) refl
+  where
+    go : (t : Bool) → leb 5 s ≡ t → 2 ≡ shortBy w s
+    go true e = absurd (omega (arith, leb-true 5 s e))
+    go false e = rw (le-leb 230 w g, e)
+
+pub long : (w s : ℕ) → 230 ≤ w → 5 ≤ s → 0 ≡ shortBy w s
+unfolding shortBy
+long w s g h = rw (le-leb 230 w g, le-leb 5 s h)
+
+pub long-board : (w s : ℕ) → shortBy w s ≡ 0 → 230 ≤ w
+long-board w s e = go (leb 230 w) refl e
+  where
+    go : (t : Bool) → leb 230 w ≡ t → shortBy w s ≡ 0 → 230 ≤ w
+    go true f e = leb-true 230 w f
+    go false f e = absurd (omega (arith, short-board w s (leb-false 230 w f), e))
+
+pub long-answer : (w s : ℕ) → shortBy w s ≡ 0 → 5 ≤ s
+long-answer w s e = go (leb 5 s) refl e
+  where
+    go : (t : Bool) → leb 5 s ≡ t → shortBy w s ≡ 0 → 5 ≤ s
+    go true f e = leb-true 5 s f
+    go false f e = absurd (omega (arith, short-answer w s (long-board w s e) (leb-false 5 s f), e))
+
+-- ---- writing back
+
+pub kept-done : (w : List ℕ) (a : Answer) → a .refusal ≡ 0 → encoded w (a .board) ≡ kept w a
+unfolding kept
+kept-done w a e = rw (eq-eqb (a .refusal) 0 e)
+
+pub kept-refused : (w : List ℕ) (a : Answer) → (a .refusal ≡ 0 → ⊥) → w ≡ kept w a
+unfolding kept
+kept-refused w a n = rw (ne-eqb (a .refusal) 0 n)
+
+-- ---- calls
+
+-- if memory is short, nothing is written
+pub not-called : (step : Board → Answer) (w s : List ℕ) (r : ℕ) → r ≡ code w s → (r ≡ 0 → ⊥) → Called step w s r w s
+not-called step w s r e n = record { returned = e; board = rw off; answer = rw off }
+  where
+    off : eqb (code w s) 0 ≡ false
+    off = ne-eqb (code w s) 0 (λ d. n (e ∙ d))
+
+pub called : (step : Board → Answer) (w s : List ℕ) (r : ℕ) → r ≡ code w s → r ≡ 0 → (b : Board) → b ≡ decoded w → (a : Answer) → a ≡ step b → (w' s' : List ℕ) → w' ≡ kept w a → s' ≡ said s a
+    → Called step w s 0 w' s'
+called step w s r e z b d a f w' s' k t = record { returned = sym z ∙ e; board = k ∙ rw (on, f, d); answer = t ∙ rw (on, f, d) }
+  where
+    on : eqb (code w s) 0 ≡ true
+    on = eq-eqb (code w s) 0 (sym e ∙ z)
