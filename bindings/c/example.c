@@ -1,0 +1,33 @@
+/* Console 1 of 2 writes 7 on three nodes; nodes 0 and 2 are a majority, so the write finishes without node 1. Ends with 0 if
+ * every answer is the one that is written here. */
+#include "board.h"
+
+static uint32_t words[BOARD_WORDS];
+static uint32_t said[ANSWER_WORDS];
+
+/* to the node, and back to the console: the second outcome */
+static uint32_t twice(uint32_t console, uint32_t node)
+{
+    if (board_deliver(words, BOARD_WORDS, said, ANSWER_WORDS, console, node) != 0 || said[0] != 2)
+        return 0;
+    if (board_deliver(words, BOARD_WORDS, said, ANSWER_WORDS, console, node) != 0)
+        return 0;
+    return said[0];
+}
+
+int main(void)
+{
+    if (board_fresh(words, BOARD_WORDS, said, ANSWER_WORDS, 3, 2) != 0 || said[0] != 1)
+        return 1;
+    if (board_begin_write(words, BOARD_WORDS, said, ANSWER_WORDS, 1, 7) != 0 || said[0] != 1)
+        return 2;
+    if (twice(1, 0) != 3 || twice(1, 2) != 4 || twice(1, 0) != 3 || twice(1, 2) != 5)
+        return 3;
+    /* finished with tag (1, 1), value 7 */
+    if (said[2] != 1 || said[3] != 1 || said[4] != 7)
+        return 4;
+    /* there is no console 2: refused by question 4 */
+    if (board_begin_read(words, BOARD_WORDS, said, ANSWER_WORDS, 2) != 0 || said[0] != 0 || said[1] != 4)
+        return 5;
+    return 0;
+}
