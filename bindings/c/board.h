@@ -6,8 +6,9 @@
  * If the step is accepted the next board is written back; if it is refused nothing of the lent board is written.
  *
  * A call returns 0. If `words` is shorter than a board it returns 1, if `said` is shorter than an answer it returns 2, and
- * nothing is written. Lengths are in words. Any words whatever may be lent: if they are no well-formed board's, every step
- * but board_fresh is refused with 1. */
+ * nothing is written. Lengths are in words. The two lent memories must not overlap, and nobody else may touch them during
+ * the call. Any words whatever may be lent: if they are no well-formed board's, every step but board_fresh is refused
+ * with 1. */
 #ifndef BOARD_H
 #define BOARD_H
 
