@@ -57,59 +57,18 @@ pub struct Board {
 
 // A lent slice is a pointer and a length. Each call returns 0, or 1 if `words` is too short, or 2 if `said` is.
 extern "C" {
-    fn board_fresh(
-        words: *mut u32,
-        words_len: usize,
-        said: *mut u32,
-        said_len: usize,
-        n: u32,
-        m: u32,
-    ) -> u32;
-    fn board_begin_read(
-        words: *mut u32,
-        words_len: usize,
-        said: *mut u32,
-        said_len: usize,
-        console: u32,
-    ) -> u32;
-    fn board_begin_write(
-        words: *mut u32,
-        words_len: usize,
-        said: *mut u32,
-        said_len: usize,
-        console: u32,
-        value: u32,
-    ) -> u32;
-    fn board_deliver(
-        words: *mut u32,
-        words_len: usize,
-        said: *mut u32,
-        said_len: usize,
-        console: u32,
-        node: u32,
-    ) -> u32;
-    fn board_node_down(
-        words: *mut u32,
-        words_len: usize,
-        said: *mut u32,
-        said_len: usize,
-        node: u32,
-    ) -> u32;
-    fn board_console_down(
-        words: *mut u32,
-        words_len: usize,
-        said: *mut u32,
-        said_len: usize,
-        console: u32,
-    ) -> u32;
+    fn board_fresh(words: *mut u32, words_len: usize, said: *mut u32, said_len: usize, n: u32, m: u32) -> u32;
+    fn board_begin_read(words: *mut u32, words_len: usize, said: *mut u32, said_len: usize, console: u32) -> u32;
+    fn board_begin_write(words: *mut u32, words_len: usize, said: *mut u32, said_len: usize, console: u32, value: u32) -> u32;
+    fn board_deliver(words: *mut u32, words_len: usize, said: *mut u32, said_len: usize, console: u32, node: u32) -> u32;
+    fn board_node_down(words: *mut u32, words_len: usize, said: *mut u32, said_len: usize, node: u32) -> u32;
+    fn board_console_down(words: *mut u32, words_len: usize, said: *mut u32, said_len: usize, console: u32) -> u32;
 }
 
 impl Board {
     /// The fresh board of n nodes (1 to 5) and m consoles (1 to 8).
     pub fn fresh(n: u32, m: u32) -> Result<Board, Refusal> {
-        let mut board = Board {
-            words: [0; BOARD_WORDS],
-        };
+        let mut board = Board { words: [0; BOARD_WORDS] };
         board.call(|w, wl, s, sl| unsafe { board_fresh(w, wl, s, sl, n, m) })?;
         Ok(board)
     }
@@ -148,17 +107,9 @@ impl Board {
         &self.words
     }
 
-    fn call(
-        &mut self,
-        step: impl FnOnce(*mut u32, usize, *mut u32, usize) -> u32,
-    ) -> Result<Outcome, Refusal> {
+    fn call(&mut self, step: impl FnOnce(*mut u32, usize, *mut u32, usize) -> u32) -> Result<Outcome, Refusal> {
         let mut said = [0; ANSWER_WORDS];
-        let short = step(
-            self.words.as_mut_ptr(),
-            BOARD_WORDS,
-            said.as_mut_ptr(),
-            ANSWER_WORDS,
-        );
+        let short = step(self.words.as_mut_ptr(), BOARD_WORDS, said.as_mut_ptr(), ANSWER_WORDS);
         assert_eq!(short, 0, "both arrays have the library's lengths");
         let [outcome, refusal, ts, console, value] = said;
         match outcome {
@@ -187,14 +138,8 @@ mod tests {
         let mut said = [9; ANSWER_WORDS];
         let w = words.as_mut_ptr();
         let s = said.as_mut_ptr();
-        assert_eq!(
-            unsafe { board_fresh(w, BOARD_WORDS - 1, s, ANSWER_WORDS, 3, 2) },
-            1
-        );
-        assert_eq!(
-            unsafe { board_fresh(w, BOARD_WORDS, s, ANSWER_WORDS - 1, 3, 2) },
-            2
-        );
+        assert_eq!(unsafe { board_fresh(w, BOARD_WORDS - 1, s, ANSWER_WORDS, 3, 2) }, 1);
+        assert_eq!(unsafe { board_fresh(w, BOARD_WORDS, s, ANSWER_WORDS - 1, 3, 2) }, 2);
         assert_eq!(unsafe { board_deliver(w, 0, s, 0, 0, 0) }, 1);
         assert_eq!(words, [9; BOARD_WORDS]);
         assert_eq!(said, [9; ANSWER_WORDS]);
@@ -225,14 +170,8 @@ mod tests {
         let mut words = [9; BOARD_WORDS + 1];
         let mut said = [9; ANSWER_WORDS + 1];
         let (w, s) = (words.as_mut_ptr(), said.as_mut_ptr());
-        assert_eq!(
-            unsafe { board_fresh(w, words.len(), s, said.len(), 3, 2) },
-            0
-        );
-        assert_eq!(
-            words[..BOARD_WORDS],
-            Board::fresh(3, 2).unwrap().words()[..]
-        );
+        assert_eq!(unsafe { board_fresh(w, words.len(), s, said.len(), 3, 2) }, 0);
+        assert_eq!(words[..BOARD_WORDS], Board::fresh(3, 2).unwrap().words()[..]);
         assert_eq!(words[BOARD_WORDS], 9);
         assert_eq!(said, [1, 0, 0, 0, 0, 9]);
     }

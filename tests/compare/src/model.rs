@@ -1,0 +1,317 @@
+//! The board as document 01 says it, in sets and maps. Nothing here is shared with the library.
+use std::collections::{BTreeMap, BTreeSet};
+
+pub const MAX_TS: u64 = 4_000_000_000;
+
+/// A tag: ts, then console number; so the order of tuples is the order of tags.
+pub type Tag = (u64, u64);
+
+#[derive(Clone, Copy, Debug, PartialEq, Eq)]
+pub enum Frame {
+    Ask,
+    Reply(Tag, u32),
+    Put(Tag, u32),
+    Ack,
+}
+
+#[derive(Clone, Copy, Debug, PartialEq, Eq)]
+pub enum Kind {
+    Read,
+    Write,
+}
+
+#[derive(Clone, Copy, Debug, PartialEq, Eq)]
+pub enum State {
+    Idle,
+    Asking(Kind),
+    Telling(Kind),
+    Down,
+}
+
+#[derive(Clone, Debug, PartialEq, Eq)]
+pub struct Node {
+    pub up: bool,
+    pub tag: Tag,
+    pub value: u32,
+}
+
+#[derive(Clone, Debug, PartialEq, Eq)]
+pub struct Console {
+    pub state: State,
+    pub wanted: u32,
+    pub answered: BTreeSet<u32>,
+    pub best: Tag,
+    pub value: u32,
+}
+
+/// Nodes 0 to 4 and consoles 0 to 7 are always there; a cell is there if it holds a frame.
+#[derive(Clone, Debug, PartialEq, Eq)]
+pub struct Model {
+    pub n: u32,
+    pub m: u32,
+    pub nodes: BTreeMap<u32, Node>,
+    pub consoles: BTreeMap<u32, Console>,
+    pub cells: BTreeMap<(u32, u32), Frame>,
+}
+
+#[derive(Clone, Copy, Debug, PartialEq, Eq)]
+pub enum Step {
+    BeginRead(u32),
+    BeginWrite(u32, u32),
+    Deliver(u32, u32),
+    NodeDown(u32),
+    ConsoleDown(u32),
+}
+
+#[derive(Clone, Copy, Debug, PartialEq, Eq)]
+pub enum Outcome {
+    Done,
+    Handed,
+    Heard,
+    Turned,
+    Finished(Tag, u32),
+    Discarded,
+}
+
+/// A deliberate fault, to show that a comparison can fail. 0 is none.
+pub type Fault = u32;
+pub const READ_UNTOLD: Fault = 1;
+pub const TS_ONLY: Fault = 2;
+pub const SET_KEPT: Fault = 3;
+pub const EQUAL_TAKEN: Fault = 4;
+pub const NEXT_AFTER_READ: Fault = 5;
+pub const CELLS_CLEARED: Fault = 6;
+pub const LAST_FAULT: Fault = 6;
+
+fn fresh_node() -> Node {
+    Node {
+        up: true,
+        tag: (0, 0),
+        value: 0,
+    }
+}
+
+fn at_rest(state: State) -> Console {
+    Console {
+        state,
+        wanted: 0,
+        answered: BTreeSet::new(),
+        best: (0, 0),
+        value: 0,
+    }
+}
+
+impl Model {
+    pub fn fresh(n: u32, m: u32) -> Result<Model, u32> {
+        if !(1..=5).contains(&n) {
+            return Err(2);
+        }
+        if !(1..=8).contains(&m) {
+            return Err(3);
+        }
+        Ok(Model {
+            n,
+            m,
+            nodes: (0..5).map(|k| (k, fresh_node())).collect(),
+            consoles: (0..8).map(|c| (c, at_rest(State::Idle))).collect(),
+            cells: BTreeMap::new(),
+        })
+    }
+
+    pub fn majority(&self) -> usize {
+        (self.n / 2 + 1) as usize
+    }
+
+    pub fn is_well_formed(&self) -> bool {
+        if !(1..=5).contains(&self.n) || !(1..=8).contains(&self.m) {
+            return false;
+        }
+        let good = |tag: Tag, value: u32| tag.0 <= MAX_TS && tag.1 < u64::from(self.m) && (tag.0 != 0 || (tag.1 == 0 && value == 0));
+        let nodes = self
+            .nodes
+            .iter()
+            .all(|(k, x)| good(x.tag, x.value) && (*k < self.n || *x == fresh_node()));
+        let consoles = self
+            .consoles
+            .iter()
+            .all(|(c, x)| good(x.best, x.value) && self.is_console_good(x) && (*c < self.m || *x == at_rest(State::Idle)));
+        let cells = self.cells.iter().all(|((c, k), f)| {
+            *c < self.m
+                && *k < self.n
+                && match f {
+                    Frame::Reply(tag, value) | Frame::Put(tag, value) => good(*tag, *value),
+                    Frame::Ask | Frame::Ack => true,
+                }
+        });
+        nodes && consoles && cells
+    }
+
+    fn is_console_good(&self, x: &Console) -> bool {
+        match x.state {
+            State::Idle | State::Down => *x == at_rest(x.state),
+            State::Asking(kind) | State::Telling(kind) => {
+                let none_yet = matches!(x.state, State::Asking(_)) && x.answered.is_empty();
+                x.answered.iter().all(|k| *k < self.n)
+                    && x.answered.len() < self.majority()
+                    && (!none_yet || (x.best == (0, 0) && x.value == 0))
+                    && (kind == Kind::Write || x.wanted == 0)
+            }
+        }
+    }
+
+    /// The outcome and the next board, or the refusal.
+    pub fn step(&self, step: Step, fault: Fault) -> Result<(Outcome, Model), u32> {
+        if !self.is_well_formed() {
+            return Err(1);
+        }
+        match step {
+            Step::BeginRead(c) => self.begin(c, Kind::Read, 0),
+            Step::BeginWrite(c, v) => self.begin(c, Kind::Write, v),
+            Step::Deliver(c, k) => self.deliver(c, k, fault),
+            Step::NodeDown(k) => {
+                if k >= self.n {
+                    return Err(5);
+                }
+                if !self.nodes[&k].up {
+                    return Err(9);
+                }
+                let mut next = self.clone();
+                next.nodes.get_mut(&k).unwrap().up = false;
+                Ok((Outcome::Done, next))
+            }
+            Step::ConsoleDown(c) => {
+                if c >= self.m {
+                    return Err(4);
+                }
+                if self.consoles[&c].state == State::Down {
+                    return Err(6);
+                }
+                let mut next = self.clone();
+                next.consoles.insert(c, at_rest(State::Down));
+                Ok((Outcome::Done, next))
+            }
+        }
+    }
+
+    fn begin(&self, c: u32, kind: Kind, wanted: u32) -> Result<(Outcome, Model), u32> {
+        if c >= self.m {
+            return Err(4);
+        }
+        match self.consoles[&c].state {
+            State::Down => return Err(6),
+            State::Idle => {}
+            _ => return Err(7),
+        }
+        let mut next = self.clone();
+        next.consoles.insert(
+            c,
+            Console {
+                wanted,
+                ..at_rest(State::Asking(kind))
+            },
+        );
+        next.send_all(c, Frame::Ask);
+        Ok((Outcome::Done, next))
+    }
+
+    fn send_all(&mut self, c: u32, frame: Frame) {
+        for k in 0..self.n {
+            self.cells.insert((c, k), frame);
+        }
+    }
+
+    fn deliver(&self, c: u32, k: u32, fault: Fault) -> Result<(Outcome, Model), u32> {
+        if c >= self.m {
+            return Err(4);
+        }
+        if k >= self.n {
+            return Err(5);
+        }
+        let Some(frame) = self.cells.get(&(c, k)).copied() else {
+            return Err(8);
+        };
+        let mut next = self.clone();
+        next.cells.remove(&(c, k));
+        match frame {
+            Frame::Ask | Frame::Put(..) if !self.nodes[&k].up => Err(9),
+            Frame::Ask => {
+                let node = &self.nodes[&k];
+                next.cells.insert((c, k), Frame::Reply(node.tag, node.value));
+                Ok((Outcome::Handed, next))
+            }
+            Frame::Put(tag, value) => {
+                let node = next.nodes.get_mut(&k).unwrap();
+                let greater = match fault {
+                    TS_ONLY => tag.0 > node.tag.0,
+                    EQUAL_TAKEN => tag >= node.tag,
+                    _ => tag > node.tag,
+                };
+                if greater {
+                    node.tag = tag;
+                    node.value = value;
+                }
+                next.cells.insert((c, k), Frame::Ack);
+                Ok((Outcome::Handed, next))
+            }
+            Frame::Reply(tag, value) => next.hear_reply(c, k, tag, value, fault),
+            Frame::Ack => Ok(next.hear_ack(c, k, fault)),
+        }
+    }
+
+    fn hear_reply(mut self, c: u32, k: u32, tag: Tag, value: u32, fault: Fault) -> Result<(Outcome, Model), u32> {
+        let q = self.majority();
+        let x = self.consoles.get_mut(&c).unwrap();
+        let State::Asking(kind) = x.state else {
+            return Ok((Outcome::Discarded, self));
+        };
+        if !x.answered.insert(k) {
+            return Ok((Outcome::Discarded, self));
+        }
+        if tag > x.best {
+            x.best = tag;
+            x.value = value;
+        }
+        if x.answered.len() < q {
+            return Ok((Outcome::Heard, self));
+        }
+        if kind == Kind::Write {
+            if x.best.0 >= MAX_TS {
+                return Err(10);
+            }
+            x.best = (x.best.0 + 1, u64::from(c));
+            x.value = x.wanted;
+        }
+        if fault == NEXT_AFTER_READ && kind == Kind::Read {
+            x.best.0 += 1;
+        }
+        if fault == READ_UNTOLD && kind == Kind::Read {
+            let (best, value) = (x.best, x.value);
+            *x = at_rest(State::Idle);
+            return Ok((Outcome::Finished(best, value), self));
+        }
+        if fault != SET_KEPT {
+            x.answered.clear();
+        }
+        x.state = State::Telling(kind);
+        let put = Frame::Put(x.best, x.value);
+        self.send_all(c, put);
+        Ok((Outcome::Turned, self))
+    }
+
+    fn hear_ack(mut self, c: u32, k: u32, fault: Fault) -> (Outcome, Model) {
+        let q = self.majority();
+        let x = self.consoles.get_mut(&c).unwrap();
+        if !matches!(x.state, State::Telling(_)) || !x.answered.insert(k) {
+            return (Outcome::Discarded, self);
+        }
+        if x.answered.len() < q {
+            return (Outcome::Heard, self);
+        }
+        let finished = Outcome::Finished(x.best, x.value);
+        *x = at_rest(State::Idle);
+        if fault == CELLS_CLEARED {
+            self.cells.retain(|(d, _), _| *d != c);
+        }
+        (finished, self)
+    }
+}
