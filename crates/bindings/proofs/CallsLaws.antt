@@ -1,14 +1,14 @@
 -- Laws of the calls.
 use Prim.Native.Nat.{ℕ, _≤_, _<_}
-use mathlib.Core.Bool.{Bool, true, false, cond}
+use mathlib.Core.Bool.{Bool, true, false}
 use mathlib.Core.List.{List}
-use mathlib.Core.Path.{_≡_, refl, sym, ap, _∙_}
+use mathlib.Core.Path.{_≡_, refl, sym, _∙_}
 use native.Mathlib.Omega.{arith}
 use borrow.Author.Tests.{leb-true, leb-false, le-leb, ne-eqb, eq-eqb}
 use lib.Dec.{eqb, leb}
 use Rattle.board.specs.declared.Answer.{Answer}
 use Rattle.board.specs.declared.Board.{Board}
-use Rattle.bindings.specs.Words.{decoded, encoded}
+use Rattle.words.specs.Words.{decoded, encoded}
 use Rattle.bindings.specs.Calls.{said, kept, shortBy, code, Called}
 
 -- ---- lengths
@@ -66,7 +66,7 @@ not-called step w s r e n = record { returned = e; board = rw off; answer = rw o
     off : eqb (code w s) 0 ≡ false
     off = ne-eqb (code w s) 0 (λ d. n (e ∙ d))
 
-pub called : (step : Board → Answer) (w s : List ℕ) (r : ℕ) → r ≡ code w s → r ≡ 0 → (b : Board) → b ≡ decoded w → (a : Answer) → a ≡ step b → (w' s' : List ℕ) → w' ≡ kept w a → s' ≡ said s a
+pub called : (step : Board → Answer) (w s : List ℕ) (r : ℕ) → r ≡ code w s → r ≡ 0 → (b : Board) → b ≡ decoded w → (a : Answer) → a ≡ step b → (w' s' : List ℕ) → w' ≡ kept w a → s' ≡ said s 0 a
     → Called step w s 0 w' s'
 called step w s r e z b d a f w' s' k t = record { returned = sym z ∙ e; board = k ∙ rw (on, f, d); answer = t ∙ rw (on, f, d) }
   where

@@ -1,4 +1,3 @@
--- Laws of the words and of the calls; encoding and then decoding a board gives that board (RoundTrip).
-pub mod WordsLaws
-pub mod RoundTrip
+-- Laws of the calls and of lists of steps.
 pub mod CallsLaws
+pub mod ListsLaws

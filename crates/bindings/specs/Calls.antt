@@ -1,5 +1,5 @@
--- A step on a board that stands in lent words. The answer goes into five words that are lent beside it.
-use Prim.Native.Nat.{ℕ}
+-- Steps on a board that stands in lent words: one step a call (Called). The answer goes into five words lent beside it.
+use Prim.Native.Nat.{ℕ, _+_}
 use mathlib.Core.Bool.{cond}
 use mathlib.Core.List.{List}
 use mathlib.Core.Path.{_≡_}
@@ -8,14 +8,15 @@ use lib.ListN.{length, set}
 use Rattle.parts.specs.Outcomes.{outcomeNumber, outcomeTag, outcomeValue}
 use Rattle.board.specs.declared.Answer.{Answer}
 use Rattle.board.specs.declared.Board.{Board}
-use Rattle.bindings.specs.Words.{boardWords, decoded, encoded, putFour}
+use Rattle.words.specs.Words.{boardWords, decoded, encoded, putFour}
 
+-- the words of an answer
 abbrev pub answerWords : ℕ
 answerWords = 5
 
--- outcome, refusal, tag and value
-unfoldable pub said : List ℕ → Answer → List ℕ
-said s a = set (putFour s 0 (outcomeNumber (a .outcome)) (a .refusal) (outcomeTag (a .outcome) .ts) (outcomeTag (a .outcome) .console)) 4 (outcomeValue (a .outcome))
+-- outcome, refusal, tag and value, from p on
+unfoldable pub said : List ℕ → ℕ → Answer → List ℕ
+said s p a = set (putFour s p (outcomeNumber (a .outcome)) (a .refusal) (outcomeTag (a .outcome) .ts) (outcomeTag (a .outcome) .console)) (p + 4) (outcomeValue (a .outcome))
 
 -- on a refusal nothing of the lent board is written
 unfoldable pub kept : List ℕ → Answer → List ℕ
@@ -33,4 +34,4 @@ code w s = shortBy (length w) (length s)
 pub record Called (step : Board → Answer) (w s : List ℕ) (r : ℕ) (w' s' : List ℕ) : Type 0 where
   pub returned : r ≡ code w s
   pub board : w' ≡ cond (eqb (code w s) 0) (kept w (step (decoded w))) w
-  pub answer : s' ≡ cond (eqb (code w s) 0) (said s (step (decoded w))) s
+  pub answer : s' ≡ cond (eqb (code w s) 0) (said s 0 (step (decoded w))) s

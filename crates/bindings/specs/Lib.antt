@@ -1,3 +1,3 @@
--- A board in words of lent memory, and the calls on it.
-pub mod Words
+-- The calls on a board in words of lent memory.
 pub mod Calls
+pub mod Lists

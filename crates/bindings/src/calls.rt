@@ -1,36 +1,36 @@
 // The calls: each puts one step to the board in the lent words w, and writes the answer into the lent words s and the next
 // board back into w (Called).
 ghost use mathlib.Core.Path.{_≡_};
-ghost use Prim.Native.Nat.{_≤_};
+ghost use Prim.Native.Nat.{_+_, _≤_};
 ghost use lib.ListN.{length};
 ghost use Rattle.board.specs.Steps.{setupOf, fresh, beginRead, beginWrite, nodeDown, consoleDown};
 ghost use Rattle.board.specs.Deliver.{deliver};
-ghost use Rattle.bindings.specs.Words.{boardWords};
+ghost use Rattle.words.specs.Words.{boardWords};
 ghost use Rattle.bindings.specs.Calls.{answerWords, said, kept, shortBy, Called};
-use crate::reading::decode;
-use crate::writing::encode;
-use crate::writing::put_four;
 use board::Answer;
 use board::Board;
 use parts::ConsoleId;
 use parts::NodeId;
+use words::BOARD_WORDS;
+use words::reading::decode;
+use words::writing::encode;
+use words::writing::put_four;
 
-const BOARD_WORDS: usize = 230;
+// The words of an answer.
+pub(crate) const ANSWER_WORDS: usize = 5;
 
-const ANSWER_WORDS: usize = 5;
-
-// Writes the answer into the first five words. A call has seen that they are there, and that the words reach for a board.
-fn put_answer(s: &mut [u32], a: Answer)
-    requires { ⌜ answerWords ≤ length (now s) ⌝ }
-    ensures { λ r. ⌜ now (s .exit) ≡ said (now (s .entry)) a ⌝ }
+// Writes the answer into five words from p on. The caller has seen that they are there.
+pub(crate) fn put_answer(s: &mut [u32], p: usize, a: Answer)
+    requires { ⌜ p + answerWords ≤ length (now s) ⌝ }
+    ensures { λ r. ⌜ now (s .exit) ≡ said (now (s .entry)) p a ⌝ }
 {
     let o = a.outcome;
     let t = o.tag();
-    put_four(s, 0, o.number(), a.refusal, t.ts, t.console);
-    s[4] = o.value();
+    put_four(s, p, o.number(), a.refusal, t.ts, t.console);
+    s[p + 4] = o.value();
 }
 
-// Writes the next board back, unless the step was refused.
+// Writes the next board back, unless the step was refused. The caller has seen that the words reach for a board.
 fn keep(w: &mut [u32], a: Answer)
     requires { ⌜ boardWords ≤ length (now w) ⌝ }
     ensures { λ r. ⌜ now (w .exit) ≡ kept (now (w .entry)) a ⌝ }
@@ -64,7 +64,7 @@ pub extern "C" fn board_fresh(w: &mut [u32], s: &mut [u32], n: u32, m: u32) -> u
         return short;
     }
     let a = Board::fresh(n, m);
-    put_answer(s, a);
+    put_answer(s, 0, a);
     keep(w, a);
     0
 }
@@ -79,7 +79,7 @@ pub extern "C" fn board_begin_read(w: &mut [u32], s: &mut [u32], c: u32) -> u32
         return short;
     }
     let a = decode(w).begin_read(ConsoleId(c));
-    put_answer(s, a);
+    put_answer(s, 0, a);
     keep(w, a);
     0
 }
@@ -94,7 +94,7 @@ pub extern "C" fn board_begin_write(w: &mut [u32], s: &mut [u32], c: u32, v: u32
         return short;
     }
     let a = decode(w).begin_write(ConsoleId(c), v);
-    put_answer(s, a);
+    put_answer(s, 0, a);
     keep(w, a);
     0
 }
@@ -109,7 +109,7 @@ pub extern "C" fn board_deliver(w: &mut [u32], s: &mut [u32], c: u32, k: u32) ->
         return short;
     }
     let a = decode(w).deliver(ConsoleId(c), NodeId(k));
-    put_answer(s, a);
+    put_answer(s, 0, a);
     keep(w, a);
     0
 }
@@ -124,7 +124,7 @@ pub extern "C" fn board_node_down(w: &mut [u32], s: &mut [u32], k: u32) -> u32
         return short;
     }
     let a = decode(w).node_down(NodeId(k));
-    put_answer(s, a);
+    put_answer(s, 0, a);
     keep(w, a);
     0
 }
@@ -139,7 +139,7 @@ pub extern "C" fn board_console_down(w: &mut [u32], s: &mut [u32], c: u32) -> u3
         return short;
     }
     let a = decode(w).console_down(ConsoleId(c));
-    put_answer(s, a);
+    put_answer(s, 0, a);
     keep(w, a);
     0
 }

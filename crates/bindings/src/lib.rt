@@ -1,4 +1,11 @@
-// A board in words of memory that the caller lends, for Rust and C.
+// The calls for Rust and C, on a board in words of memory that the caller lends.
+use board::Board;
+
 mod calls;
-mod reading;
-mod writing;
+mod lists;
+
+// The board in the course of a list of steps, and whether one of them has been accepted.
+pub struct Course {
+    pub board: Board,
+    pub moved: bool,
+}

@@ -16,6 +16,12 @@ put-four-requires c κs = search needs
 value-requires : tie.Need-value-requires
 value-requires c κs = search needs
 
+add-s : tie.Need-add-s
+add-s c = search needs
+
+mul-s : tie.Need-mul-s
+mul-s c = search needs
+
 slice-write-s : tie.Need-slice-write-s
 slice-write-s c = search needs
 
@@ -34,6 +40,8 @@ put-answer-spec =
     number-requires
     put-four-requires
     value-requires
+    add-s
+    mul-s
     slice-write-s
     same-length
     returns)

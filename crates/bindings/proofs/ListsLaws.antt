@@ -1,0 +1,123 @@
+-- Laws of lists of steps.
+use Prim.Native.Nat.{ℕ, zero, suc, _+_, _*_, _/_, _%_, _≤_, _<_}
+use mathlib.Core.Bool.{Bool, true, false, cond}
+use mathlib.Core.List.{List}
+use mathlib.Core.Path.{_≡_, refl, sym, ap, _∙_}
+use native.Mathlib.Numerals.{add-one}
+use native.Mathlib.Omega.{arith}
+use borrow.Author.Tests.{leb-true, leb-false, le-leb, ne-eqb, eq-eqb}
+use lib.Dec.{eqb, leb}
+use lib.ListN.{length, length-set}
+use Rattle.board.specs.declared.Answer.{Answer}
+use Rattle.board.specs.declared.Board.{Board}
+use Rattle.board.specs.Answers.{refuse}
+use Rattle.words.specs.Words.{decoded, encoded}
+use Rattle.bindings.specs.declared.Course.{Course}
+use Rattle.bindings.specs.Calls.{said}
+use Rattle.bindings.specs.Lists.{stepOf, stepAt, goOn, after, answers, keptAfter, stepsIn, listShortBy, listCode, Ran}
+
+-- ---- steps by number
+
+pub no-such-step : (z x y : ℕ) (b : Board) → 6 ≤ z → refuse 12 b ≡ stepOf z x y b
+unfolding stepOf
+no-such-step zero x y b h = absurd (omega arith)
+no-such-step (suc zero) x y b h = absurd (omega arith)
+no-such-step (suc (suc zero)) x y b h = absurd (omega arith)
+no-such-step (suc (suc (suc zero))) x y b h = absurd (omega arith)
+no-such-step (suc (suc (suc (suc zero)))) x y b h = absurd (omega arith)
+no-such-step (suc (suc (suc (suc (suc zero))))) x y b h = absurd (omega arith)
+no-such-step (suc (suc (suc (suc (suc (suc z)))))) x y b h = refl
+
+-- ---- lengths
+
+module _ (w q s : ℕ) where
+  pub list-short-board : w < 230 → 1 ≡ listShortBy w q s
+  unfolding listShortBy
+  list-short-board l = go (leb 230 w) refl
+    where
+      go : (t : Bool) → leb 230 w ≡ t → 1 ≡ listShortBy w q s
+      go true e = absurd (omega (arith, leb-true 230 w e))
+      go false e = rw e
+
+  pub list-short-answers : 230 ≤ w → s / 5 < q / 3 → 2 ≡ listShortBy w q s
+  unfolding listShortBy
+  list-short-answers g l = go (leb (q / 3) (s / 5)) refl
+    where
+      go : (t : Bool) → leb (q / 3) (s / 5) ≡ t → 2 ≡ listShortBy w q s
+      go true e = absurd (omega (arith, leb-true (q / 3) (s / 5) e))
+      go false e = rw (le-leb 230 w g, e)
+
+  pub list-uneven : 230 ≤ w → q / 3 ≤ s / 5 → (q % 3 ≡ 0 → ⊥) → 3 ≡ listShortBy w q s
+  unfolding listShortBy
+  list-uneven g h n = rw (le-leb 230 w g, le-leb (q / 3) (s / 5) h, ne-eqb (q % 3) 0 n)
+
+  pub list-long : 230 ≤ w → q / 3 ≤ s / 5 → q % 3 ≡ 0 → 0 ≡ listShortBy w q s
+  unfolding listShortBy
+  list-long g h e = rw (le-leb 230 w g, le-leb (q / 3) (s / 5) h, eq-eqb (q % 3) 0 e)
+
+  pub list-long-board : listShortBy w q s ≡ 0 → 230 ≤ w
+  list-long-board e = go (leb 230 w) refl
+    where
+      go : (t : Bool) → leb 230 w ≡ t → 230 ≤ w
+      go true f = leb-true 230 w f
+      go false f = absurd (omega (arith, list-short-board (leb-false 230 w f), e))
+
+  pub list-long-answers : listShortBy w q s ≡ 0 → stepsIn q * 5 ≤ s
+  list-long-answers e = go (leb (q / 3) (s / 5)) refl
+    where
+      go : (t : Bool) → leb (q / 3) (s / 5) ≡ t → stepsIn q * 5 ≤ s
+      go true f = omega (arith, leb-true (q / 3) (s / 5) f)
+      go false f = absurd (omega (arith, list-short-answers (list-long-board e) (leb-false (q / 3) (s / 5) f), e))
+
+-- ---- one step more
+
+pub go-on-done : (x : Course) (a : Answer) → a .refusal ≡ 0 → record { board = a .board; moved = true } ≡ goOn x a
+unfolding goOn
+go-on-done x a e = rw (eq-eqb (a .refusal) 0 e)
+
+pub go-on-refused : (x : Course) (a : Answer) → (a .refusal ≡ 0 → ⊥) → x ≡ goOn x a
+unfolding goOn
+go-on-refused x a n = rw (ne-eqb (a .refusal) 0 n)
+
+pub after-more : (q : List ℕ) (b : Board) (k : ℕ) → goOn (after q b k) (stepAt q k (after q b k .board)) ≡ after q b (k + 1)
+unfolding after
+after-more q b k = rw add-one
+
+pub answers-more : (q : List ℕ) (b : Board) (s : List ℕ) (k : ℕ) → said (answers q b s k) (k * 5) (stepAt q k (after q b k .board)) ≡ answers q b s (k + 1)
+unfolding answers
+answers-more q b s k = rw add-one
+
+pub said-long : (s : List ℕ) (p : ℕ) (a : Answer) → length (said s p a) ≡ length s
+unfolding said
+said-long s p a = simp length-set
+
+pub answers-long : (q : List ℕ) (b : Board) (s : List ℕ) (k : ℕ) → length (answers q b s k) ≡ length s
+unfolding answers
+answers-long q b s zero = refl
+answers-long q b s (suc k) = said-long (answers q b s k) (k * 5) (stepAt q k (after q b k .board)) ∙ answers-long q b s k
+
+-- ---- writing back
+
+pub kept-after-moved : (w : List ℕ) (x : Course) → x .moved ≡ true → encoded w (x .board) ≡ keptAfter w x
+unfolding keptAfter
+kept-after-moved w x e = ap (λ (t : Bool). cond t (encoded w (x .board)) w) (sym e)
+
+pub kept-after-still : (w : List ℕ) (x : Course) → x .moved ≡ false → w ≡ keptAfter w x
+unfolding keptAfter
+kept-after-still w x e = ap (λ (t : Bool). cond t (encoded w (x .board)) w) (sym e)
+
+-- ---- calls
+
+-- if a length does not fit, nothing is written
+pub not-ran : (w q s : List ℕ) (r : ℕ) → r ≡ listCode w q s → (r ≡ 0 → ⊥) → Ran w q s r w s
+not-ran w q s r e n = record { returned = e; board = rw off; answered = rw off }
+  where
+    off : eqb (listCode w q s) 0 ≡ false
+    off = ne-eqb (listCode w q s) 0 (λ d. n (e ∙ d))
+
+pub ran : (w q s : List ℕ) (r : ℕ) → r ≡ listCode w q s → r ≡ 0 → (b : Board) → b ≡ decoded w → (x : Course) → x ≡ after q b (stepsIn (length q)) → (w' s' : List ℕ) → w' ≡ keptAfter w x
+    → s' ≡ answers q b s (stepsIn (length q)) → Ran w q s 0 w' s'
+ran w q s r e z b d x f w' s' k t = record { returned = sym z ∙ e; board = k ∙ rw (on, f, d); answered = t ∙ rw (on, d) }
+  where
+    on : eqb (listCode w q s) 0 ≡ true
+    on = eq-eqb (listCode w q s) 0 (sym e ∙ z)

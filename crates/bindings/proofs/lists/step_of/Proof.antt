@@ -1,0 +1,70 @@
+-- Each arm is a case of the definition.
+use native.Mathlib.Omega.{arith}
+use Rattle.bindings.proofs.ListsLaws.{no-such-step}
+use Rattle.bindings.specs.Lists.{stepOf}
+use borrow.Author.Needs.{needs}
+use Rattle.bindings.proofs.lists.step_of.Statement.{statement}
+use Rattle.bindings.proofs.lists.step_of.Tie as tie
+
+fresh-requires : tie.Need-fresh-requires
+fresh-requires c κs = search needs
+
+begin-read-requires : tie.Need-begin-read-requires
+begin-read-requires c κs = search needs
+
+begin-write-requires : tie.Need-begin-write-requires
+begin-write-requires c κs = search needs
+
+deliver-requires : tie.Need-deliver-requires
+deliver-requires c κs = search needs
+
+node-down-requires : tie.Need-node-down-requires
+node-down-requires c κs = search needs
+
+console-down-requires : tie.Need-console-down-requires
+console-down-requires c κs = search needs
+
+returns : tie.Need-returns
+unfolding stepOf
+returns c = rw (c .before .match .keys1) (c .fresh .ensures)
+
+returns-2 : tie.Need-returns-2
+unfolding stepOf
+returns-2 c = rw (c .before .match .keys2) (c .begin-read .ensures)
+
+returns-3 : tie.Need-returns-3
+unfolding stepOf
+returns-3 c = rw (c .before .match .keys3) (c .begin-write .ensures)
+
+returns-4 : tie.Need-returns-4
+unfolding stepOf
+returns-4 c = rw (c .before .match .keys4) (c .deliver .ensures)
+
+returns-5 : tie.Need-returns-5
+unfolding stepOf
+returns-5 c = rw (c .before .match .keys5) (c .node-down .ensures)
+
+returns-6 : tie.Need-returns-6
+unfolding stepOf
+returns-6 c = rw (c .before .match .keys6) (c .console-down .ensures)
+
+returns-7 : tie.Need-returns-7
+returns-7 c = no-such-step _ _ _ _ (omega (arith, c .match .rest))
+
+pub step-of-spec : {M : Type 1} → statement M
+step-of-spec =
+    tie.close
+    (tie.spec
+    fresh-requires
+    begin-read-requires
+    begin-write-requires
+    deliver-requires
+    node-down-requires
+    console-down-requires
+    returns
+    returns-2
+    returns-3
+    returns-4
+    returns-5
+    returns-6
+    returns-7)

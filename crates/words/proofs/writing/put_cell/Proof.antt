@@ -1,0 +1,35 @@
+-- The four words are the definition's.
+use borrow.Author.Needs.{needs}
+use Rattle.words.specs.Words.{putCell}
+use Rattle.words.proofs.writing.put_cell.Statement.{statement}
+use Rattle.words.proofs.writing.put_cell.Tie as tie
+
+frame-tag-requires : tie.Need-frame-tag-requires
+frame-tag-requires c κs = search needs
+
+frame-number-requires : tie.Need-frame-number-requires
+frame-number-requires c κs = search needs
+
+frame-value-requires : tie.Need-frame-value-requires
+frame-value-requires c κs = search needs
+
+put-four-requires : tie.Need-put-four-requires
+put-four-requires c κs = search needs
+
+same-length : tie.Need-same-length
+same-length c = search needs
+
+returns : tie.Need-returns
+unfolding putCell
+returns c = rw (c .before .before .put-four .ensures, c .before .before .before .frame-value .ensures, c .before .before .before .before .frame-number .ensures, c .before .before .before .before .before .before .frame-tag .ensures)
+
+pub put-cell-spec : {M : Type 1} → statement M
+put-cell-spec =
+    tie.close
+    (tie.spec
+    frame-tag-requires
+    frame-number-requires
+    frame-value-requires
+    put-four-requires
+    same-length
+    returns)

@@ -1,0 +1,58 @@
+-- The six words are the definition's.
+use mathlib.Core.Path.{ap}
+use native.Mathlib.Omega.{arith}
+use borrow.Author.Needs.{needs}
+use lib.ListN.{length, length-set}
+use Rattle.words.specs.Words.{putConsole}
+use Rattle.words.proofs.writing.put_console.Statement.{statement}
+use Rattle.words.proofs.writing.put_console.Tie as tie
+
+state-number-requires : tie.Need-state-number-requires
+state-number-requires c κs = search needs
+
+cast-put-four : tie.Need-cast-put-four
+cast-put-four c = search needs
+
+put-four-requires : tie.Need-put-four-requires
+put-four-requires c κs = search needs
+
+add-w : tie.Need-add-w
+add-w c = search needs
+
+mul-w : tie.Need-mul-w
+mul-w c = search needs
+
+slice-write-w : tie.Need-slice-write-w
+slice-write-w c = search needs
+
+add-w-2 : tie.Need-add-w-2
+add-w-2 c = search needs
+
+mul-w-2 : tie.Need-mul-w-2
+mul-w-2 c = search needs
+
+slice-write-w-2 : tie.Need-slice-write-w-2
+slice-write-w-2 c = simp length-set (omega (arith, simp length-set at (ap length (c .before .before .put-four .ensures))))
+
+same-length : tie.Need-same-length
+same-length c = search needs
+
+returns : tie.Need-returns
+unfolding putConsole
+returns c = (rw (c .before .before .put-four .ensures, c .before .before .before .before .state-number .ensures), search needs)
+
+pub put-console-spec : {M : Type 1} → statement M
+put-console-spec =
+    tie.close
+    (tie.spec
+    state-number-requires
+    cast-put-four
+    put-four-requires
+    add-w
+    mul-w
+    slice-write-w
+    add-w-2
+    mul-w-2
+    slice-write-w-2
+    same-length
+    returns)
