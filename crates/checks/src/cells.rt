@@ -1,8 +1,6 @@
 // The clauses on cells.
 ghost use mathlib.Core.Path.{_≡_};
-ghost use Prim.Native.Nat.{_<_};
-ghost use Rattle.parts.specs.Limits.{maxConsoles};
-ghost use Rattle.checks.specs.Clauses.{frameOk, cellOk, rowOk, cellsOk};
+ghost use Rattle.checks.specs.Clauses.{frameOk, cellOk, cellsOk};
 use crate::tags::is_tag_ok;
 use parts::CELLS;
 use parts::Cell;
@@ -37,32 +35,23 @@ fn is_cell_ok(setup: Setup, c: ConsoleId, k: NodeId, f: Frame) -> bool
     is_frame_ok(setup, f)
 }
 
-// Console c's cells; the caller's loop has c below 8.
-fn is_row_ok(setup: Setup, cells: [Cell; CELLS], c: ConsoleId) -> bool
-    requires { ⌜ c .0 < maxConsoles ⌝ }
-    ensures { λ r. ⌜ r ≡ rowOk setup cells (c .0) ⌝ }
-{
-    let mut k: u32 = 0;
-    while k < MAX_NODES {
-        let x = cells[(c.0 * MAX_NODES + k) as usize];
-        let f = x.frame;
-        if !is_cell_ok(setup, c, NodeId(k), f) {
-            return false;
-        }
-        k += 1;
-    }
-    true
-}
-
+// Cell by cell, row by row.
 pub fn are_cells_ok(setup: Setup, cells: [Cell; CELLS]) -> bool
     ensures { λ r. ⌜ r ≡ cellsOk setup cells ⌝ }
 {
     let mut c: u32 = 0;
+    let mut k: u32 = 0;
     while c < MAX_CONSOLES {
-        if !is_row_ok(setup, cells, ConsoleId(c)) {
+        let x = cells[(c * MAX_NODES + k) as usize];
+        let f = x.frame;
+        if !is_cell_ok(setup, ConsoleId(c), NodeId(k), f) {
             return false;
         }
-        c += 1;
+        k += 1;
+        if k == MAX_NODES {
+            k = 0;
+            c += 1;
+        }
     }
     true
 }
