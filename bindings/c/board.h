@@ -1,14 +1,41 @@
-/* The board for C. Link with target/staticlib/libbindings.a, which `rt staticlib bindings` writes.
+/* The board for C, on x86-64. Link with target/staticlib/libbindings.a, which `rt staticlib bindings` writes.
  *
  * A board stands in BOARD_WORDS words of memory that the caller lends, and each call puts one step to it. The answer goes
- * into ANSWER_WORDS words: said[0] is the outcome (0 refused, 1 done, 2 handed, 3 heard, 4 turned, 5 finished, 6 discarded),
- * said[1] the number of the question that refused, said[2] and said[3] the tag's ts and console, said[4] the value.
+ * into ANSWER_WORDS words:
+ *
+ *   said[0]  the outcome: 0 refused, 1 done, 2 handed, 3 heard, 4 turned, 5 finished, 6 discarded
+ *   said[1]  why it was refused, or 0:
+ *              1 the board is not well formed   6 the console is down
+ *              2 n is not from 1 to 5           7 the console is not idle
+ *              3 m is not from 1 to 8           8 there is no frame between console and node
+ *              4 there is no such console       9 the node is down
+ *              5 there is no such node         10 there is no higher timestamp for the write
+ *   said[2], said[3], said[4]  the tag's ts and console, and the value, if it has finished; else 0
+ *
  * If the step is accepted the next board is written back; if it is refused nothing of the lent board is written.
  *
- * A call returns 0. If `words` is shorter than a board it returns 1, if `said` is shorter than an answer it returns 2, and
- * nothing is written. Lengths are in words. The two lent memories must not overlap, and nobody else may touch them during
- * the call. Any words whatever may be lent: if they are no well-formed board's, every step but board_fresh is refused
- * with 1. */
+ * board_run puts a whole list of steps to a board, one after the other: STEP_WORDS words for a step, its number (below) and
+ * its two numbers in the order in which the step's own call takes them; a second number that the step does not take is
+ * passed over. A step whose number none has is refused with 12, on any board. `said` gets ANSWER_WORDS words for each step,
+ * and a refused step leaves the board as it was, a refused fresh too.
+ *
+ * A call returns 0 if the steps were put to the board, refused or not. If `words` is shorter than a board it returns 1, if
+ * `said` is shorter than the answers it returns 2, if `steps_len` is no multiple of STEP_WORDS it returns 3, and then nothing
+ * is written. Lengths are in words; memory beyond a board, or beyond the answers, is never written. The pointers must be
+ * valid for their lengths, the lent memories must not overlap, and nobody else may touch them during the call.
+ *
+ * Any words whatever may be lent: if they are no well-formed board's, every step but a fresh is refused with 1. The words of
+ * a board are
+ *
+ *   0, 1     n and m
+ *   2 on     four for each of 5 nodes: up (0 is down), ts, console, value
+ *   22 on    six for each of 8 consoles: state (0 idle, 1 asking to read, 2 asking to write, 3 telling to read, 4 telling to
+ *            write, from 5 on down), wanted value, answered set (bit k is node k; bits from 8 on are passed over), best ts,
+ *            best console, best value
+ *   70 on    four for each of 40 cells, at console times 5 plus node: frame (0 nothing, 1 ask, 2 reply, 3 put, from 4 on ack),
+ *            ts, console, value; the last three are passed over but for a reply and a put
+ *
+ * and an accepted step writes all of them anew, each number that is passed over as 0. */
 #ifndef BOARD_H
 #define BOARD_H
 
@@ -17,6 +44,13 @@
 
 #define BOARD_WORDS 230
 #define ANSWER_WORDS 5
+#define STEP_WORDS 3
+
+enum { STEP_FRESH, STEP_BEGIN_READ, STEP_BEGIN_WRITE, STEP_DELIVER, STEP_NODE_DOWN, STEP_CONSOLE_DOWN };
+
+#ifdef __cplusplus
+extern "C" {
+#endif
 
 uint32_t board_fresh(uint32_t *words, size_t words_len, uint32_t *said, size_t said_len, uint32_t n, uint32_t m);
 uint32_t board_begin_read(uint32_t *words, size_t words_len, uint32_t *said, size_t said_len, uint32_t console);
@@ -24,5 +58,10 @@ uint32_t board_begin_write(uint32_t *words, size_t words_len, uint32_t *said, si
 uint32_t board_deliver(uint32_t *words, size_t words_len, uint32_t *said, size_t said_len, uint32_t console, uint32_t node);
 uint32_t board_node_down(uint32_t *words, size_t words_len, uint32_t *said, size_t said_len, uint32_t node);
 uint32_t board_console_down(uint32_t *words, size_t words_len, uint32_t *said, size_t said_len, uint32_t console);
+uint32_t board_run(uint32_t *words, size_t words_len, const uint32_t *steps, size_t steps_len, uint32_t *said, size_t said_len);
+
+#ifdef __cplusplus
+}
+#endif
 
 #endif

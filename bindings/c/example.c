@@ -15,6 +15,24 @@ static uint32_t twice(uint32_t console, uint32_t node)
     return said[0];
 }
 
+/* the same write as one list of ten steps */
+static int list(void)
+{
+    static const uint32_t steps[10 * STEP_WORDS] = {
+        STEP_FRESH, 3, 2, STEP_BEGIN_WRITE, 1, 7,
+        STEP_DELIVER, 1, 0, STEP_DELIVER, 1, 0, STEP_DELIVER, 1, 2, STEP_DELIVER, 1, 2,
+        STEP_DELIVER, 1, 0, STEP_DELIVER, 1, 0, STEP_DELIVER, 1, 2, STEP_DELIVER, 1, 2,
+    };
+    static const uint32_t outcomes[10] = {1, 1, 2, 3, 2, 4, 2, 3, 2, 5};
+    static uint32_t answers[10 * ANSWER_WORDS];
+    if (board_run(words, BOARD_WORDS, steps, 10 * STEP_WORDS, answers, 10 * ANSWER_WORDS) != 0)
+        return 6;
+    for (int i = 0; i < 10; i++)
+        if (answers[i * ANSWER_WORDS] != outcomes[i])
+            return 7;
+    return 0;
+}
+
 int main(void)
 {
     if (board_fresh(words, BOARD_WORDS, said, ANSWER_WORDS, 3, 2) != 0 || said[0] != 1)
@@ -29,5 +47,5 @@ int main(void)
     /* there is no console 2: refused by question 4 */
     if (board_begin_read(words, BOARD_WORDS, said, ANSWER_WORDS, 2) != 0 || said[0] != 0 || said[1] != 4)
         return 5;
-    return 0;
+    return list();
 }

@@ -1,4 +1,4 @@
-//! The board for Rust: safe functions over the proved library.
+//! The board for Rust: safe functions over the proved library, which `rt staticlib bindings` writes for x86-64.
 //!
 //! Console 1 of 2 writes 7 on three nodes; nodes 0 and 2 are a majority, so the write finishes without node 1:
 //!
@@ -21,17 +21,62 @@
 //! assert_eq!(board, before);
 //! # Ok::<(), Refusal>(())
 //! ```
+//!
+//! A whole list of steps is one call. Console 0 reads what was written, by nodes 1 and 2:
+//!
+//! ```
+//! # use hatukeno::{Board, Outcome, Step, Tag};
+//! let deliver = |console, node| Step::Deliver { console, node };
+//! let mut steps = vec![Step::Fresh { n: 3, m: 2 }, Step::BeginWrite { console: 1, value: 7 }];
+//! steps.extend([0, 0, 2, 2, 0, 0, 2, 2].map(|node| deliver(1, node)));
+//! steps.push(Step::BeginRead { console: 0 });
+//! steps.extend([1, 1, 2, 2, 1, 1, 2, 2].map(|node| deliver(0, node)));
+//!
+//! let mut board = Board::from_words([0; hatukeno::BOARD_WORDS]);
+//! let answers = board.run(&steps);
+//! let tag = Tag { ts: 1, console: 1 };
+//! assert_eq!(answers.last(), Some(&Ok(Outcome::Finished { tag, value: 7 })));
+//! ```
 
-/// The words of a board: n and m, four for each of 5 nodes, six for each of 8 consoles, four for each of 40 cells.
+use std::error::Error;
+use std::fmt::{self, Display, Formatter};
+
+/// The words of a board (see [`Board::from_words`]).
 pub const BOARD_WORDS: usize = 230;
 
 /// The words of an answer: the outcome's number, the refusal, the tag's ts and console, the value.
-pub const ANSWER_WORDS: usize = 5;
+const ANSWER_WORDS: usize = 5;
 
-/// The number of the question that refused a step.
+/// The words of a step in a list: its number and its two numbers.
+const STEP_WORDS: usize = 3;
+
+/// The number of the question that refused a step; its `Display` says what the answer to the question was.
 #[derive(Clone, Copy, Debug, PartialEq, Eq)]
 pub struct Refusal(pub u32);
 
+impl Display for Refusal {
+    fn fmt(&self, f: &mut Formatter) -> fmt::Result {
+        let why = match self.0 {
+            1 => "the board is not well formed",
+            2 => "n is not from 1 to 5",
+            3 => "m is not from 1 to 8",
+            4 => "there is no such console",
+            5 => "there is no such node",
+            6 => "the console is down",
+            7 => "the console is not idle",
+            8 => "there is no frame between console and node",
+            9 => "the node is down",
+            10 => "there is no higher timestamp for the write",
+            12 => "there is no such step",
+            _ => "for a reason of no known number",
+        };
+        write!(f, "refused with {}: {why}", self.0)
+    }
+}
+
+impl Error for Refusal {}
+
+/// A timestamp and the number of the console that chose it. Tags go by the timestamp, then by the console.
 #[derive(Clone, Copy, Debug, PartialEq, Eq)]
 pub struct Tag {
     pub ts: u32,
@@ -49,13 +94,39 @@ pub enum Outcome {
     Discarded,
 }
 
-/// A board. Each step changes it if it is accepted, and leaves it as it was if it is refused.
+/// A step of a list.
+#[derive(Clone, Copy, Debug, PartialEq, Eq)]
+pub enum Step {
+    Fresh { n: u32, m: u32 },
+    BeginRead { console: u32 },
+    BeginWrite { console: u32, value: u32 },
+    Deliver { console: u32, node: u32 },
+    NodeDown { node: u32 },
+    ConsoleDown { console: u32 },
+}
+
+impl Step {
+    fn words(self) -> [u32; STEP_WORDS] {
+        match self {
+            Step::Fresh { n, m } => [0, n, m],
+            Step::BeginRead { console } => [1, console, 0],
+            Step::BeginWrite { console, value } => [2, console, value],
+            Step::Deliver { console, node } => [3, console, node],
+            Step::NodeDown { node } => [4, node, 0],
+            Step::ConsoleDown { console } => [5, console, 0],
+        }
+    }
+}
+
+/// A board. Each step changes it if it is accepted, and leaves it as it was if it is refused. Boards are equal if their words
+/// are.
 #[derive(Clone, Debug, PartialEq, Eq)]
 pub struct Board {
     words: [u32; BOARD_WORDS],
 }
 
-// A lent slice is a pointer and a length. Each call returns 0, or 1 if `words` is too short, or 2 if `said` is.
+// A lent slice is a pointer and a length. Each call returns 0, or 1 if `words` is too short, or 2 if `said` is, or 3 if the
+// words of a list are not three for each step.
 extern "C" {
     fn board_fresh(words: *mut u32, words_len: usize, said: *mut u32, said_len: usize, n: u32, m: u32) -> u32;
     fn board_begin_read(words: *mut u32, words_len: usize, said: *mut u32, said_len: usize, console: u32) -> u32;
@@ -63,6 +134,7 @@ extern "C" {
     fn board_deliver(words: *mut u32, words_len: usize, said: *mut u32, said_len: usize, console: u32, node: u32) -> u32;
     fn board_node_down(words: *mut u32, words_len: usize, said: *mut u32, said_len: usize, node: u32) -> u32;
     fn board_console_down(words: *mut u32, words_len: usize, said: *mut u32, said_len: usize, console: u32) -> u32;
+    fn board_run(words: *mut u32, words_len: usize, steps: *const u32, steps_len: usize, said: *mut u32, said_len: usize) -> u32;
 }
 
 impl Board {
@@ -98,7 +170,30 @@ impl Board {
         self.call(|w, wl, s, sl| unsafe { board_console_down(w, wl, s, sl, console) })
     }
 
-    /// The board that these words are. Any words are some board's; if it is not well formed, every step refuses it with 1.
+    /// Puts the steps to the board, one after the other, and gives what each answered. A refused step leaves the board as it
+    /// was, a refused fresh too, and the list goes on.
+    pub fn run(&mut self, steps: &[Step]) -> Vec<Result<Outcome, Refusal>> {
+        let list: Vec<u32> = steps.iter().flat_map(|step| step.words()).collect();
+        let mut said = vec![0; steps.len() * ANSWER_WORDS];
+        let (w, s) = (self.words.as_mut_ptr(), said.as_mut_ptr());
+        let short = unsafe { board_run(w, BOARD_WORDS, list.as_ptr(), list.len(), s, said.len()) };
+        assert_eq!(short, 0, "the lengths fit");
+        said.chunks_exact(ANSWER_WORDS).map(answer).collect()
+    }
+
+    /// The board that these words are. Any words are some board's; if it is not well formed, every step but a fresh refuses
+    /// it with 1.
+    ///
+    /// - words 0 and 1: n and m
+    /// - from 2 on, four for each of 5 nodes: up (0 is down), ts, console, value
+    /// - from 22 on, six for each of 8 consoles: state (0 idle, 1 asking to read, 2 asking to write, 3 telling to read, 4 telling
+    ///   to write, from 5 on down), wanted value, answered set (bit k is node k; bits from 8 on are passed over), best ts, best
+    ///   console, best value
+    /// - from 70 on, four for each of 40 cells, at console times 5 plus node: frame (0 nothing, 1 ask, 2 reply, 3 put, from 4 on
+    ///   ack), ts, console, value; the last three are passed over but for a reply and a put
+    ///
+    /// An accepted step writes all words anew, each number that is passed over as 0 and each state and frame as its lowest
+    /// number.
     pub fn from_words(words: [u32; BOARD_WORDS]) -> Board {
         Board { words }
     }
@@ -111,20 +206,23 @@ impl Board {
         let mut said = [0; ANSWER_WORDS];
         let short = step(self.words.as_mut_ptr(), BOARD_WORDS, said.as_mut_ptr(), ANSWER_WORDS);
         assert_eq!(short, 0, "both arrays have the library's lengths");
-        let [outcome, refusal, ts, console, value] = said;
-        match outcome {
-            0 => Err(Refusal(refusal)),
-            1 => Ok(Outcome::Done),
-            2 => Ok(Outcome::Handed),
-            3 => Ok(Outcome::Heard),
-            4 => Ok(Outcome::Turned),
-            5 => Ok(Outcome::Finished {
-                tag: Tag { ts, console },
-                value,
-            }),
-            6 => Ok(Outcome::Discarded),
-            _ => unreachable!("an outcome has a number from 0 to 6"),
-        }
+        answer(&said)
+    }
+}
+
+fn answer(said: &[u32]) -> Result<Outcome, Refusal> {
+    match *said {
+        [0, refusal, 0, 0, 0] => Err(Refusal(refusal)),
+        [1, 0, 0, 0, 0] => Ok(Outcome::Done),
+        [2, 0, 0, 0, 0] => Ok(Outcome::Handed),
+        [3, 0, 0, 0, 0] => Ok(Outcome::Heard),
+        [4, 0, 0, 0, 0] => Ok(Outcome::Turned),
+        [5, 0, ts, console, value] => Ok(Outcome::Finished {
+            tag: Tag { ts, console },
+            value,
+        }),
+        [6, 0, 0, 0, 0] => Ok(Outcome::Discarded),
+        _ => unreachable!("{said:?} is no answer"),
     }
 }
 
@@ -143,6 +241,17 @@ mod tests {
         assert_eq!(unsafe { board_deliver(w, 0, s, 0, 0, 0) }, 1);
         assert_eq!(words, [9; BOARD_WORDS]);
         assert_eq!(said, [9; ANSWER_WORDS]);
+    }
+
+    #[test]
+    fn a_refused_fresh_leaves_the_lent_board() {
+        let mut words = [9; BOARD_WORDS];
+        let mut said = [9; ANSWER_WORDS];
+        let (w, s) = (words.as_mut_ptr(), said.as_mut_ptr());
+        assert_eq!(unsafe { board_fresh(w, BOARD_WORDS, s, ANSWER_WORDS, 6, 2) }, 0);
+        assert_eq!(words, [9; BOARD_WORDS]);
+        assert_eq!(said, [0, 2, 0, 0, 0]);
+        assert_eq!(Board::fresh(6, 2).unwrap_err().to_string(), "refused with 2: n is not from 1 to 5");
     }
 
     #[test]
@@ -174,5 +283,58 @@ mod tests {
         assert_eq!(words[..BOARD_WORDS], Board::fresh(3, 2).unwrap().words()[..]);
         assert_eq!(words[BOARD_WORDS], 9);
         assert_eq!(said, [1, 0, 0, 0, 0, 9]);
+    }
+
+    #[test]
+    fn a_refused_step_of_a_list_changes_nothing_and_the_list_goes_on() {
+        let mut board = Board::fresh(3, 2).unwrap();
+        let begun = [Step::BeginRead { console: 0 }, Step::NodeDown { node: 2 }];
+        let refused = [
+            Step::Fresh { n: 6, m: 2 },
+            Step::Deliver { console: 1, node: 0 },
+            Step::ConsoleDown { console: 2 },
+        ];
+        assert_eq!(board.run(&begun), [Ok(Outcome::Done), Ok(Outcome::Done)]);
+        let before = board.clone();
+        assert_eq!(board.run(&refused), [Err(Refusal(2)), Err(Refusal(8)), Err(Refusal(4))]);
+        assert_eq!(board, before);
+        assert_eq!(board.run(&[]), []);
+        assert_eq!(board, before);
+    }
+
+    #[test]
+    fn a_list_of_refused_steps_writes_nothing_of_a_damaged_board() {
+        let mut board = Board::from_words([9; BOARD_WORDS]);
+        assert_eq!(
+            board.run(&[Step::NodeDown { node: 0 }, Step::Fresh { n: 0, m: 1 }]),
+            [Err(Refusal(1)), Err(Refusal(2))]
+        );
+        assert_eq!(board.words(), &[9; BOARD_WORDS]);
+    }
+
+    #[test]
+    fn a_list_whose_lengths_do_not_fit_is_refused_and_nothing_is_written() {
+        let mut words = [9; BOARD_WORDS];
+        let mut said = [9; 2 * ANSWER_WORDS];
+        let list = [0, 3, 2, 1, 0, 0];
+        let (w, l, s) = (words.as_mut_ptr(), list.as_ptr(), said.as_mut_ptr());
+        assert_eq!(unsafe { board_run(w, BOARD_WORDS - 1, l, 6, s, 10) }, 1);
+        assert_eq!(unsafe { board_run(w, BOARD_WORDS, l, 6, s, 9) }, 2);
+        assert_eq!(unsafe { board_run(w, BOARD_WORDS, l, 5, s, 10) }, 3);
+        assert_eq!(unsafe { board_run(w, BOARD_WORDS, l, 4, s, 10) }, 3);
+        assert_eq!(words, [9; BOARD_WORDS]);
+        assert_eq!(said, [9; 2 * ANSWER_WORDS]);
+    }
+
+    #[test]
+    fn a_step_that_there_is_not_is_refused_with_12() {
+        let mut words = *Board::fresh(3, 2).unwrap().words();
+        let before = words;
+        let mut said = [9; 2 * ANSWER_WORDS + 1];
+        let list = [6, 0, 0, u32::MAX, 0, 0];
+        let (w, l, s) = (words.as_mut_ptr(), list.as_ptr(), said.as_mut_ptr());
+        assert_eq!(unsafe { board_run(w, BOARD_WORDS, l, 6, s, 11) }, 0);
+        assert_eq!(words, before);
+        assert_eq!(said, [0, 12, 0, 0, 0, 0, 12, 0, 0, 0, 9]);
     }
 }

@@ -9,6 +9,10 @@ use model::{Fault, Model, Outcome, Step, LAST_FAULT};
 use std::process::exit;
 use words::Words;
 
+/// The steps of a run.
+const LENGTH: u32 = 500;
+const MAX_TS: u32 = 4_000_000_000;
+
 /// Numbers by chance, the same ones for the same seed (splitmix64).
 struct Chance(u64);
 
@@ -46,8 +50,9 @@ impl Chance {
         }
     }
 
-    fn step(&mut self, n: u32, m: u32) -> Step {
-        match self.below(1000) {
+    /// Mostly deliveries. Nothing that is down comes back, so long runs need some without crashes.
+    fn step(&mut self, n: u32, m: u32, crashes: bool) -> Step {
+        match if crashes { self.below(1000) } else { 8 + self.below(992) } {
             0..=2 => Step::NodeDown(self.number(n)),
             3..=7 => Step::ConsoleDown(self.number(m)),
             8..=100 => Step::BeginRead(self.number(m)),
@@ -77,6 +82,14 @@ fn same(a: hatukeno::Outcome, b: Outcome) -> bool {
         (hatukeno::Outcome::Finished { tag, value }, Outcome::Finished(t, v)) => {
             (u64::from(tag.ts), u64::from(tag.console)) == t && value == v
         }
+        _ => false,
+    }
+}
+
+fn alike(library: &Result<hatukeno::Outcome, Refusal>, model: &Result<Outcome, u32>) -> bool {
+    match (library, model) {
+        (Ok(a), Ok(b)) => same(*a, *b),
+        (Err(a), Err(b)) => a.0 == *b,
         _ => false,
     }
 }
@@ -113,15 +126,45 @@ struct Taken {
     most: u64,
 }
 
+/// The same run as one list, twice over with a refused fresh between, on words that are no well-formed board's: the answers
+/// must be the model's, and the last board the one that the steps left one by one.
+fn listed(n: u32, m: u32, steps: &[(Step, Result<Outcome, u32>)], board: &Board) {
+    let mut run = vec![hatukeno::Step::Fresh { n, m }];
+    run.extend(steps.iter().map(|(step, _)| match *step {
+        Step::BeginRead(console) => hatukeno::Step::BeginRead { console },
+        Step::BeginWrite(console, value) => hatukeno::Step::BeginWrite { console, value },
+        Step::Deliver(console, node) => hatukeno::Step::Deliver { console, node },
+        Step::NodeDown(node) => hatukeno::Step::NodeDown { node },
+        Step::ConsoleDown(console) => hatukeno::Step::ConsoleDown { console },
+    }));
+    let list = [run.clone(), vec![hatukeno::Step::Fresh { n: 0, m }], run].concat();
+    let mut answers = vec![Ok(Outcome::Done)];
+    answers.extend(steps.iter().map(|(_, answer)| *answer));
+    let answers = [answers.clone(), vec![Err(2)], answers].concat();
+    let mut other = Board::from_words([u32::MAX; BOARD_WORDS]);
+    let said = other.run(&list);
+    let agree = said.len() == answers.len() && said.iter().zip(&answers).all(|(a, b)| alike(a, b));
+    if !agree || other != *board {
+        println!("a difference at the list {list:?}");
+        println!("the list answered {said:?}, its words are {:?}", other.words());
+        println!("the model answered {answers:?}, one by one the words are {:?}", board.words());
+        exit(1);
+    }
+}
+
 /// One run from a fresh board.
-fn run(n: u32, m: u32, length: u32, chance: &mut Chance, fault: Fault, taken: &mut Taken) {
+fn run(n: u32, m: u32, crashes: bool, chance: &mut Chance, fault: Fault, taken: &mut Taken) {
     let mut board = Board::fresh(n, m).expect("an allowed size");
     let mut model = Model::fresh(n, m).expect("an allowed size");
+    fresh(n, m);
     let mut open = [None; 8];
     let bound = 2 * (u64::from(n) + model.majority() as u64);
-    for _ in 0..length {
-        let step = chance.step(n, m);
-        let Ok(outcome) = both(&mut board, &mut model, step, fault) else {
+    let mut steps = Vec::new();
+    for _ in 0..LENGTH {
+        let step = chance.step(n, m, crashes);
+        let answer = both(&mut board, &mut model, step, fault);
+        steps.push((step, answer));
+        let Ok(outcome) = answer else {
             continue;
         };
         match step {
@@ -145,51 +188,99 @@ fn run(n: u32, m: u32, length: u32, chance: &mut Chance, fault: Fault, taken: &m
             }
         }
     }
+    listed(n, m, &steps, &board);
 }
 
-/// A board some steps into a run, with one word out of place (one time in four more), and six steps on it, each from there.
-/// Whether it is well formed all the same.
-fn damaged(chance: &mut Chance, fault: Fault) -> bool {
-    let (n, m) = (1 + chance.below(5), 1 + chance.below(8));
+/// A board some steps into a run.
+fn some_board(n: u32, m: u32, chance: &mut Chance) -> Words {
     let mut board = Board::fresh(n, m).expect("an allowed size");
     for _ in 0..chance.below(30) {
-        let step = chance.step(n, m);
+        let step = chance.step(n, m, true);
         let _ = put(&mut board, step);
     }
-    let mut words: Words = *board.words();
+    *board.words()
+}
+
+/// How many boards were not well formed, how many of these had one word out of place, and how many were well formed after all.
+#[derive(Default)]
+struct Damaged {
+    ill: u64,
+    by_one: u64,
+    well: u64,
+}
+
+impl Damaged {
+    /// Six steps on a board of which so many words were set, each from there.
+    fn put(&mut self, words: Words, set: u32, (n, m): (u32, u32), chance: &mut Chance, fault: Fault) {
+        let model = words::read(&words);
+        let steps = [
+            Step::BeginRead(chance.number(m)),
+            Step::BeginWrite(chance.number(m), 7),
+            Step::Deliver(chance.number(m), chance.number(n)),
+            Step::Deliver(chance.number(m), chance.number(n)),
+            Step::NodeDown(chance.number(n)),
+            Step::ConsoleDown(chance.number(m)),
+        ];
+        for step in steps {
+            both(&mut Board::from_words(words), &mut model.clone(), step, fault).ok();
+        }
+        if model.is_well_formed(fault) {
+            self.well += 1;
+        } else {
+            self.ill += 1;
+            self.by_one += u64::from(set == 1);
+        }
+    }
+}
+
+/// Numbers on both sides of every edge of well-formedness on a board of n nodes: n and m and what is beside them, states,
+/// frames, small sets and what is beside all n nodes, the last timestamp and what is beside it.
+fn edges(n: u32) -> impl Iterator<Item = u32> {
+    let far = [2u32.pow(n) - 1, 2u32.pow(n), 255, 256, MAX_TS - 1, MAX_TS, MAX_TS + 1, u32::MAX];
+    (0..10).chain(far)
+}
+
+/// Every word of a board at every edge, one at a time.
+fn swept(n: u32, m: u32, chance: &mut Chance, fault: Fault, seen: &mut Damaged) {
+    let words = some_board(n, m, chance);
+    for i in 0..BOARD_WORDS {
+        for number in edges(n) {
+            let mut damaged = words;
+            damaged[i] = number;
+            seen.put(damaged, 1, (n, m), chance, fault);
+        }
+    }
+}
+
+/// A board with one word out of place, one time in four more.
+fn damaged(chance: &mut Chance, fault: Fault, seen: &mut Damaged) {
+    let (n, m) = (1 + chance.below(5), 1 + chance.below(8));
+    let mut words = some_board(n, m, chance);
+    let mut set = 0;
     loop {
         let i = chance.below(BOARD_WORDS as u32) as usize;
-        words[i] = match chance.below(12) {
-            0 => 0,
-            1 => 1,
-            2 => n,
-            3 => m,
-            4 => n - 1,
-            5 => m - 1,
-            6 => 4_000_000_000,
-            7 => 4_000_000_001,
-            8 => 3_999_999_999,
-            9 => 2u32.pow(n) - chance.below(2),
-            10 => chance.below(9),
-            _ => chance.next() as u32,
+        words[i] = if chance.one_in(12) {
+            chance.next() as u32
+        } else {
+            let edge = chance.below(edges(n).count() as u32);
+            edges(n).nth(edge as usize).expect("an edge")
         };
+        set += 1;
         if !chance.one_in(4) {
             break;
         }
     }
-    let model = words::read(&words);
-    let steps = [
-        Step::BeginRead(chance.number(m)),
-        Step::BeginWrite(chance.number(m), 7),
-        Step::Deliver(chance.number(m), chance.number(n)),
-        Step::Deliver(chance.number(m), chance.number(n)),
-        Step::NodeDown(chance.number(n)),
-        Step::ConsoleDown(chance.number(m)),
-    ];
-    for step in steps {
-        both(&mut Board::from_words(words), &mut model.clone(), step, fault).ok();
+    seen.put(words, set, (n, m), chance, fault);
+}
+
+/// The fresh board, or its refusal, of both.
+fn fresh(n: u32, m: u32) {
+    let library = Board::fresh(n, m).map(|b| *b.words()).map_err(|r| r.0);
+    let expected = Model::fresh(n, m).map(|b| words::write(&b));
+    if library != expected {
+        println!("a difference at fresh {n} {m}: {library:?}, {expected:?}");
+        exit(1);
     }
-    model.is_well_formed()
 }
 
 /// Both extras of document 01.
@@ -251,32 +342,27 @@ fn main() {
         }
     }
     for (n, m) in [(0, 0), (0, 9), (5, 8), (6, 1), (5, 9), (5, 0), (u32::MAX, 1), (1, u32::MAX)] {
-        let library = Board::fresh(n, m).map(|b| *b.words()).map_err(|r| r.0);
-        let expected = Model::fresh(n, m).map(|b| words::write(&b));
-        if library != expected {
-            println!("a difference at fresh {n} {m}: {library:?}, {expected:?}");
-            exit(1);
-        }
+        fresh(n, m);
     }
     extras(fault);
 
-    const LENGTH: u32 = 500;
+    let sizes: Vec<(u32, u32)> = (0..40).map(|i| (1 + i / 8, 1 + i % 8)).collect();
     let mut chance = Chance(seed);
     let mut taken = vec![Taken::default(); 40];
-    let mut done = 0;
+    let mut seen = Damaged::default();
+    let (mut done, mut crashes) = (0, true);
     while done < steps {
-        for (i, t) in taken.iter_mut().enumerate() {
-            run(1 + i as u32 / 8, 1 + i as u32 % 8, LENGTH, &mut chance, fault, t);
+        for ((n, m), t) in sizes.iter().zip(&mut taken) {
+            run(*n, *m, crashes, &mut chance, fault, t);
             done += u64::from(LENGTH);
         }
+        crashes = !crashes;
     }
-    let (mut ill, mut well) = (0, 0);
-    while ill < boards {
-        if damaged(&mut chance, fault) {
-            well += 1;
-        } else {
-            ill += 1;
-        }
+    for (n, m) in sizes {
+        swept(n, m, &mut chance, fault, &mut seen);
+    }
+    while seen.ill < boards {
+        damaged(&mut chance, fault, &mut seen);
     }
 
     println!(" n  m  finished  most  mean  2(n + q)");
@@ -285,6 +371,9 @@ fn main() {
         let mean = t.sum as f64 / t.finished.max(1) as f64;
         println!("{n:2} {m:2} {:9} {:5} {mean:5.2} {:9}", t.finished, t.most, 2 * (n + n / 2 + 1));
     }
-    println!("seed {seed}: {done} steps on 40 sizes agree");
-    println!("and 6 steps on each of {ill} damaged boards, and of {well} that were well formed all the same");
+    println!("seed {seed}: {done} steps on 40 sizes agree, one by one and as lists");
+    println!(
+        "and 6 steps on each of {} damaged boards, {} of them by one word, and of {} that were well formed all the same",
+        seen.ill, seen.by_one, seen.well
+    );
 }

@@ -81,7 +81,8 @@ pub const SET_KEPT: Fault = 3;
 pub const EQUAL_TAKEN: Fault = 4;
 pub const NEXT_AFTER_READ: Fault = 5;
 pub const CELLS_CLEARED: Fault = 6;
-pub const LAST_FAULT: Fault = 6;
+pub const NINE_CONSOLES: Fault = 7;
+pub const LAST_FAULT: Fault = 7;
 
 fn fresh_node() -> Node {
     Node {
@@ -122,8 +123,9 @@ impl Model {
         (self.n / 2 + 1) as usize
     }
 
-    pub fn is_well_formed(&self) -> bool {
-        if !(1..=5).contains(&self.n) || !(1..=8).contains(&self.m) {
+    pub fn is_well_formed(&self, fault: Fault) -> bool {
+        let most = if fault == NINE_CONSOLES { 9 } else { 8 };
+        if !(1..=5).contains(&self.n) || !(1..=most).contains(&self.m) {
             return false;
         }
         let good = |tag: Tag, value: u32| tag.0 <= MAX_TS && tag.1 < u64::from(self.m) && (tag.0 != 0 || (tag.1 == 0 && value == 0));
@@ -161,7 +163,7 @@ impl Model {
 
     /// The outcome and the next board, or the refusal.
     pub fn step(&self, step: Step, fault: Fault) -> Result<(Outcome, Model), u32> {
-        if !self.is_well_formed() {
+        if !self.is_well_formed(fault) {
             return Err(1);
         }
         match step {
