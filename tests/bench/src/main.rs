@@ -1,0 +1,433 @@
+//! Times the proved library beside plain Rust, which asks question 1 at every step or never, on the same steps.
+//!
+//!     bench [--seed S] [--rounds N]
+mod plain;
+
+use hatukeno::{Board, Outcome, Refusal, BOARD_WORDS};
+use std::hint::black_box;
+use std::mem::size_of;
+use std::process::exit;
+use std::time::Instant;
+
+type Words = [u32; BOARD_WORDS];
+type Answer = Result<Outcome, Refusal>;
+type Plain = plain::Board<true>;
+type Unasked = plain::Board<false>;
+
+/// Steps by chance that all sides are seen to agree on; what is timed is drawn from among them.
+const STEPS: usize = 200_000;
+/// Steps of the whole runs that are timed, the first of STEPS.
+const RUN_STEPS: usize = 20_000;
+/// A run is ended here, or sooner if no operation can finish any more.
+const LENGTH: usize = 1000;
+/// Boards that are timed for each kind of step.
+const BOARDS: usize = 256;
+/// Boards with a word out of place, on which the answer to question 1 is compared.
+const DAMAGED: usize = 100_000;
+
+#[derive(Clone, Copy, Debug)]
+enum Step {
+    BeginRead(u32),
+    BeginWrite(u32, u32),
+    Deliver(u32, u32),
+    NodeDown(u32),
+    ConsoleDown(u32),
+}
+
+/// What is timed: a board in one of its three forms.
+trait Side: Clone {
+    fn made(n: u32, m: u32) -> Result<Self, Refusal>;
+    fn of(words: &Words) -> Self;
+    fn in_words(&self) -> Words;
+    fn step(&mut self, step: Step) -> Answer;
+}
+
+/// The three forms have the same functions, but no trait of their own.
+macro_rules! side {
+    ($board:ty, $of:expr, $words:expr) => {
+        impl Side for $board {
+            fn made(n: u32, m: u32) -> Result<Self, Refusal> {
+                <$board>::fresh(n, m)
+            }
+
+            fn of(words: &Words) -> Self {
+                $of(words)
+            }
+
+            fn in_words(&self) -> Words {
+                $words(self)
+            }
+
+            fn step(&mut self, step: Step) -> Answer {
+                match step {
+                    Step::BeginRead(c) => self.begin_read(c),
+                    Step::BeginWrite(c, v) => self.begin_write(c, v),
+                    Step::Deliver(c, k) => self.deliver(c, k),
+                    Step::NodeDown(k) => self.node_down(k),
+                    Step::ConsoleDown(c) => self.console_down(c),
+                }
+            }
+        }
+    };
+}
+
+side!(Board, |w: &Words| Board::from_words(*w), |b: &Board| *b.words());
+side!(Plain, Plain::from_words, Plain::words);
+side!(Unasked, Unasked::from_words, Unasked::words);
+
+/// Numbers by chance, the same ones for the same seed (splitmix64).
+struct Chance(u64);
+
+impl Chance {
+    fn next(&mut self) -> u64 {
+        self.0 = self.0.wrapping_add(0x9e37_79b9_7f4a_7c15);
+        let mut z = self.0;
+        z = (z ^ (z >> 30)).wrapping_mul(0xbf58_476d_1ce4_e5b9);
+        z = (z ^ (z >> 27)).wrapping_mul(0x94d0_49bb_1331_11eb);
+        z ^ (z >> 31)
+    }
+
+    fn below(&mut self, n: u32) -> u32 {
+        (self.next() % u64::from(n)) as u32
+    }
+
+    /// Mostly a number below n, now and then n itself.
+    fn number(&mut self, n: u32) -> u32 {
+        if self.below(100) == 0 {
+            n
+        } else {
+            self.below(n)
+        }
+    }
+
+    /// A step on this board that is likely to be accepted.
+    fn step(&mut self, w: &Words) -> Step {
+        let (n, m) = (w[0], w[1]);
+        match self.below(1000) {
+            0..=2 => return Step::NodeDown(self.number(n)),
+            3..=5 => return Step::ConsoleDown(self.number(m)),
+            6..=19 => return Step::Deliver(self.number(m), self.number(n)),
+            20..=39 => return Step::BeginRead(self.number(m)),
+            _ => {}
+        }
+        let idle = (0..m).filter(|c| w[22 + 6 * *c as usize] == 0).count() as u32;
+        if self.below(16 * m) < idle {
+            let c = self.drawn((0..m).filter(|c| w[22 + 6 * *c as usize] == 0)).unwrap_or(0);
+            return if self.below(2) == 0 {
+                Step::BeginRead(c)
+            } else {
+                Step::BeginWrite(c, self.next() as u32)
+            };
+        }
+        // A reply or an ack is always taken; an ask or a put only by a node that is up.
+        let goes = |i: &u32| match w[70 + 4 * *i as usize] {
+            0 => false,
+            1 | 3 => w[2 + 4 * (*i % 5) as usize] != 0,
+            _ => true,
+        };
+        match self.drawn((0..40).filter(goes)) {
+            Some(i) => Step::Deliver(i / 5, i % 5),
+            None => Step::BeginWrite(self.number(m), self.next() as u32),
+        }
+    }
+
+    fn drawn(&mut self, all: impl Iterator<Item = u32> + Clone) -> Option<u32> {
+        let count = all.clone().count() as u32;
+        if count == 0 {
+            return None;
+        }
+        let i = self.below(count);
+        all.clone().nth(i as usize)
+    }
+}
+
+/// Stops unless this kind of plain Rust answers as the library did, and has the same words after the step.
+fn agree<B: Side>(words: &Words, step: Step, library: (Answer, Words)) {
+    let mut plain = B::of(words);
+    let expected = (plain.step(step), plain.in_words());
+    if library != expected {
+        let same = if library.1 == expected.1 {
+            "the same board"
+        } else {
+            "another board"
+        };
+        println!(
+            "a difference at {step:?} on {words:?}: the library answered {:?}, plain Rust {:?} and {same}",
+            library.0, expected.0
+        );
+        exit(1);
+    }
+}
+
+/// The step from the board in these words, which become the next board's; all sides are seen to agree.
+fn both(words: &mut Words, step: Step) -> Answer {
+    let mut library = Board::of(words);
+    let answer = library.step(step);
+    let next = library.in_words();
+    agree::<Plain>(words, step, (answer, next));
+    if answer != Err(Refusal(1)) {
+        agree::<Unasked>(words, step, (answer, next));
+    }
+    *words = next;
+    answer
+}
+
+/// A run from a fresh board.
+struct Run {
+    n: u32,
+    m: u32,
+    steps: Vec<Step>,
+}
+
+/// One row of the table: up to BOARDS boards with a step on each, drawn evenly from all that there were.
+struct Row {
+    name: &'static str,
+    is_of: fn(Step, Answer) -> bool,
+    seen: u32,
+    pairs: Vec<(Words, Step)>,
+}
+
+/// The rows, and which steps belong to each. Only a delivery has another outcome than done.
+const ROWS: [(&str, fn(Step, Answer) -> bool); 11] = [
+    ("begin read", |s, a| a.is_ok() && matches!(s, Step::BeginRead(_))),
+    ("begin write", |s, a| a.is_ok() && matches!(s, Step::BeginWrite(..))),
+    ("deliver", |s, a| a.is_ok() && matches!(s, Step::Deliver(..))),
+    ("deliver: handed", |_, a| a == Ok(Outcome::Handed)),
+    ("deliver: heard", |_, a| a == Ok(Outcome::Heard)),
+    ("deliver: turned", |_, a| a == Ok(Outcome::Turned)),
+    ("deliver: finished", |_, a| matches!(a, Ok(Outcome::Finished { .. }))),
+    ("deliver: discarded", |_, a| a == Ok(Outcome::Discarded)),
+    ("node down", |s, a| a.is_ok() && matches!(s, Step::NodeDown(_))),
+    ("console down", |s, a| a.is_ok() && matches!(s, Step::ConsoleDown(_))),
+    ("refused", |_, a| a.is_err()),
+];
+
+impl Row {
+    fn take(&mut self, words: Words, step: Step, chance: &mut Chance) {
+        self.seen += 1;
+        if self.pairs.len() < BOARDS {
+            self.pairs.push((words, step));
+        } else if let Some(place) = self.pairs.get_mut(chance.below(self.seen) as usize) {
+            *place = (words, step);
+        }
+    }
+}
+
+/// Whether some operation can still finish: a console is up, and so is a majority.
+fn goes_on(w: &Words) -> bool {
+    let up = w[2..22].chunks(4).take(w[0] as usize).filter(|x| x[0] != 0).count();
+    let consoles = w[22..70].chunks(6).take(w[1] as usize).filter(|x| x[0] != 5).count();
+    up > w[0] as usize / 2 && consoles > 0
+}
+
+/// One run by chance on a size by chance, its steps sorted into the rows.
+fn made_run(chance: &mut Chance, rows: &mut [Row]) -> Run {
+    let (n, m) = (1 + chance.below(5), 1 + chance.below(8));
+    let mut words = Board::made(n, m).expect("an allowed size").in_words();
+    if words != Plain::made(n, m).expect("an allowed size").in_words() {
+        println!("a difference at fresh {n} {m}");
+        exit(1);
+    }
+    let mut steps = Vec::new();
+    while steps.len() < LENGTH && goes_on(&words) {
+        let before = words;
+        let step = chance.step(&words);
+        let answer = both(&mut words, step);
+        for row in rows.iter_mut().filter(|row| (row.is_of)(step, answer)) {
+            row.take(before, step, chance);
+        }
+        steps.push(step);
+    }
+    Run { n, m, steps }
+}
+
+/// Question 1 is part of what is timed, but no run gets a no to it: here it is compared on boards with a word out of place.
+/// How many of them were not well formed.
+fn damaged(chance: &mut Chance, rows: &[Row]) -> usize {
+    let mut refused = 0;
+    for i in 0..DAMAGED {
+        let pairs = &rows[i % rows.len()].pairs;
+        let (mut words, step) = pairs[chance.below(pairs.len() as u32) as usize];
+        let some = [0, 1, 2, 3, 4, 5, 8, 31, 32, 4_000_000_000, 4_000_000_001, u32::MAX];
+        let word = chance.below(BOARD_WORDS as u32) as usize;
+        words[word] = some[chance.below(some.len() as u32) as usize];
+        // Of the words that are one board, take those that a step writes.
+        words = Plain::of(&words).in_words();
+        if both(&mut words, step) == Err(Refusal(1)) {
+            refused += 1;
+        }
+    }
+    refused
+}
+
+/// Nanoseconds for a step, each step on its own board; making the boards is not counted.
+fn each<B: Side>(pairs: &[(Words, Step)]) -> f64 {
+    let mut boards: Vec<(B, Step)> = pairs.iter().map(|(words, step)| (B::of(words), *step)).collect();
+    let boards = black_box(&mut boards);
+    let start = Instant::now();
+    for (board, step) in boards.iter_mut() {
+        let _ = black_box(board.step(*step));
+    }
+    let time = start.elapsed().as_nanos() as f64 / boards.len() as f64;
+    black_box(boards);
+    time
+}
+
+/// Nanoseconds for a fresh board, over all 40 sizes.
+fn fresh<B: Side>() -> f64 {
+    let sizes: Vec<(u32, u32)> = (0..BOARDS as u32).map(|i| (1 + i / 8 % 5, 1 + i % 8)).collect();
+    let sizes = black_box(sizes);
+    let start = Instant::now();
+    for (n, m) in &sizes {
+        let _ = black_box(&B::made(*n, *m));
+    }
+    start.elapsed().as_nanos() as f64 / sizes.len() as f64
+}
+
+/// Nanoseconds for a step of whole runs from start to end, one call for each step.
+fn whole<B: Side>(runs: &[Run]) -> f64 {
+    let mut count = 0;
+    let start = Instant::now();
+    for run in black_box(runs) {
+        let mut board = B::made(run.n, run.m).expect("an allowed size");
+        for step in &run.steps {
+            let _ = black_box(board.step(*step));
+        }
+        black_box(&board);
+        count += 1 + run.steps.len();
+    }
+    start.elapsed().as_nanos() as f64 / count as f64
+}
+
+/// The same through the library's one call for a list.
+fn listed(runs: &[Vec<hatukeno::Step>]) -> f64 {
+    let mut count = 0;
+    let start = Instant::now();
+    for steps in black_box(runs) {
+        let mut board = Board::from_words([0; BOARD_WORDS]);
+        black_box(board.run(steps));
+        black_box(&board);
+        count += steps.len();
+    }
+    start.elapsed().as_nanos() as f64 / count as f64
+}
+
+/// A run as a list for the library.
+fn list(run: &Run) -> Vec<hatukeno::Step> {
+    let mut steps = vec![hatukeno::Step::Fresh { n: run.n, m: run.m }];
+    steps.extend(run.steps.iter().map(|step| match *step {
+        Step::BeginRead(console) => hatukeno::Step::BeginRead { console },
+        Step::BeginWrite(console, value) => hatukeno::Step::BeginWrite { console, value },
+        Step::Deliver(console, node) => hatukeno::Step::Deliver { console, node },
+        Step::NodeDown(node) => hatukeno::Step::NodeDown { node },
+        Step::ConsoleDown(console) => hatukeno::Step::ConsoleDown { console },
+    }));
+    steps
+}
+
+/// The median of each side's times. The sides take turns in each round, and which one is first changes from round to round,
+/// so that none is favoured by what ran before it.
+fn medians<const N: usize>(rounds: usize, sides: [&dyn Fn() -> f64; N]) -> [f64; N] {
+    let mut times = [(); N].map(|()| Vec::with_capacity(rounds));
+    for round in 0..rounds {
+        for i in 0..N {
+            let side = (round + i) % N;
+            times[side].push(sides[side]());
+        }
+    }
+    times.map(|mut t| {
+        t.sort_by(f64::total_cmp);
+        t[rounds / 2]
+    })
+}
+
+fn options() -> (u64, usize) {
+    let (mut seed, mut rounds) = (1, 1000);
+    let mut words = std::env::args().skip(1);
+    while let Some(word) = words.next() {
+        if word != "--seed" && word != "--rounds" {
+            eprintln!("bench: {word} is none of --seed, --rounds");
+            exit(2);
+        }
+        let number = words.next().and_then(|x| x.parse::<u64>().ok());
+        match (word.as_str(), number) {
+            ("--seed", Some(s)) => seed = s,
+            ("--rounds", Some(n)) if (1..=1_000_000).contains(&n) => rounds = n as usize,
+            ("--seed", None) => {
+                eprintln!("bench: --seed needs a number after it");
+                exit(2);
+            }
+            _ => {
+                eprintln!("bench: --rounds needs a number from 1 to 1000000 after it");
+                exit(2);
+            }
+        }
+    }
+    (seed, rounds)
+}
+
+fn print_row(name: &str, [library, plain, unasked]: [f64; 3]) {
+    let (a, b) = (library / plain, library / unasked);
+    println!("| {name} | {library:.0} | {plain:.0} | {unasked:.1} | {a:.2} | {b:.1} |");
+}
+
+fn main() {
+    let (seed, rounds) = options();
+    let start = Instant::now();
+    let mut chance = Chance(seed);
+    let mut rows = ROWS.map(|(name, is_of)| Row {
+        name,
+        is_of,
+        seen: 0,
+        pairs: Vec::new(),
+    });
+    let (mut runs, mut steps, mut run_steps) = (Vec::new(), 0, 0);
+    while steps < STEPS {
+        let run = made_run(&mut chance, &mut rows);
+        steps += run.steps.len();
+        if run_steps < RUN_STEPS {
+            run_steps += run.steps.len();
+            runs.push(run);
+        }
+    }
+    let ill = damaged(&mut chance, &rows);
+    println!("seed {seed}: {steps} steps agree, and one on each of {DAMAGED} boards with a word out of place, {ill} not well formed");
+
+    println!();
+    println!("| ns per step | library | plain | plain, question 1 never asked | library / plain | library / never asked |");
+    println!("|---|---:|---:|---:|---:|---:|");
+    print_row("fresh", medians(rounds, [&fresh::<Board>, &fresh::<Plain>, &fresh::<Unasked>]));
+    for Row { name, pairs, .. } in &rows {
+        let sides: [&dyn Fn() -> f64; 3] = [&|| each::<Board>(pairs), &|| each::<Plain>(pairs), &|| each::<Unasked>(pairs)];
+        print_row(name, medians(rounds, sides));
+    }
+
+    let lists: Vec<_> = runs.iter().map(list).collect();
+    let names = [
+        "library",
+        "plain",
+        "plain, question 1 never asked",
+        "library, one call for the list",
+    ];
+    let sides: [&dyn Fn() -> f64; 4] = [
+        &|| whole::<Board>(&runs),
+        &|| whole::<Plain>(&runs),
+        &|| whole::<Unasked>(&runs),
+        &|| listed(&lists),
+    ];
+    let times = medians(rounds, sides);
+    println!();
+    println!("| whole runs | ns per step | steps per second | times plain | times never asked |");
+    println!("|---|---:|---:|---:|---:|");
+    for (name, time) in names.iter().zip(times) {
+        let (per_second, a, b) = (1e9 / time, time / times[1], time / times[2]);
+        println!("| {name} | {time:.1} | {per_second:.0} | {a:.2} | {b:.1} |");
+    }
+    println!();
+    println!("bytes of a board: library {}, plain {}", size_of::<Board>(), size_of::<Plain>());
+    println!(
+        "{} runs of {run_steps} steps, {BOARDS} boards for each kind of step, medians of {rounds} rounds",
+        runs.len()
+    );
+    println!("took {:.0} seconds", start.elapsed().as_secs_f64());
+}

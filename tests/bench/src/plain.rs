@@ -1,0 +1,372 @@
+//! Document 01's rules in plain Rust, written to be fast: one struct by value, changed in place. With CHECKED every step
+//! asks question 1 first, without it none does; all else is the same code.
+use hatukeno::{Outcome, Refusal, Tag, BOARD_WORDS};
+
+const MAX_NODES: usize = 5;
+const MAX_CONSOLES: usize = 8;
+const MAX_TS: u32 = 4_000_000_000;
+const ZERO: Tag = Tag { ts: 0, console: 0 };
+
+#[derive(Clone, Copy, PartialEq)]
+struct Node {
+    up: bool,
+    tag: Tag,
+    value: u32,
+}
+
+#[derive(Clone, Copy, PartialEq)]
+enum Kind {
+    Read,
+    Write,
+}
+
+#[derive(Clone, Copy, PartialEq)]
+enum State {
+    Idle,
+    Asking(Kind),
+    Telling(Kind),
+    Down,
+}
+
+#[derive(Clone, Copy, PartialEq)]
+struct Console {
+    state: State,
+    answered: u8,
+    wanted: u32,
+    best: Tag,
+    value: u32,
+}
+
+#[derive(Clone, Copy, PartialEq)]
+enum Cell {
+    Nothing,
+    Ask,
+    Reply(Tag, u32),
+    Put(Tag, u32),
+    Ack,
+}
+
+#[derive(Clone, PartialEq)]
+pub struct Board<const CHECKED: bool> {
+    n: u32,
+    m: u32,
+    nodes: [Node; MAX_NODES],
+    consoles: [Console; MAX_CONSOLES],
+    cells: [Cell; MAX_CONSOLES * MAX_NODES],
+}
+
+const FRESH: Node = Node {
+    up: true,
+    tag: ZERO,
+    value: 0,
+};
+
+const fn resting(state: State) -> Console {
+    Console {
+        state,
+        answered: 0,
+        wanted: 0,
+        best: ZERO,
+        value: 0,
+    }
+}
+
+fn is_greater(a: Tag, b: Tag) -> bool {
+    (a.ts, a.console) > (b.ts, b.console)
+}
+
+fn is_tag_ok(m: u32, t: Tag, value: u32) -> bool {
+    (t.ts <= MAX_TS) & (t.console < m) & ((t.ts != 0) | (t.console | value == 0))
+}
+
+fn is_nothing(x: &Cell) -> bool {
+    matches!(x, Cell::Nothing)
+}
+
+/// Whether all are. It does not stop at the first that is not: nearly always all are, and a branch for each costs more.
+fn all<T>(xs: &[T], is: impl Fn(&T) -> bool) -> bool {
+    xs.iter().fold(true, |ok, x| ok & is(x))
+}
+
+fn is_cell_ok(m: u32, x: &Cell) -> bool {
+    match *x {
+        Cell::Reply(t, v) | Cell::Put(t, v) => is_tag_ok(m, t, v),
+        Cell::Nothing | Cell::Ask | Cell::Ack => true,
+    }
+}
+
+impl<const CHECKED: bool> Board<CHECKED> {
+    pub fn fresh(n: u32, m: u32) -> Result<Self, Refusal> {
+        if !(1..=MAX_NODES as u32).contains(&n) {
+            return Err(Refusal(2));
+        }
+        if !(1..=MAX_CONSOLES as u32).contains(&m) {
+            return Err(Refusal(3));
+        }
+        Ok(Board {
+            n,
+            m,
+            nodes: [FRESH; MAX_NODES],
+            consoles: [resting(State::Idle); MAX_CONSOLES],
+            cells: [Cell::Nothing; MAX_CONSOLES * MAX_NODES],
+        })
+    }
+
+    pub fn begin_read(&mut self, console: u32) -> Result<Outcome, Refusal> {
+        self.begin(console, Kind::Read, 0)
+    }
+
+    pub fn begin_write(&mut self, console: u32, value: u32) -> Result<Outcome, Refusal> {
+        self.begin(console, Kind::Write, value)
+    }
+
+    pub fn deliver(&mut self, console: u32, node: u32) -> Result<Outcome, Refusal> {
+        self.ask_question_1()?;
+        if console >= self.m {
+            return Err(Refusal(4));
+        }
+        if node >= self.n {
+            return Err(Refusal(5));
+        }
+        let at = console as usize * MAX_NODES + node as usize;
+        match self.cells[at] {
+            Cell::Nothing => Err(Refusal(8)),
+            Cell::Ask => {
+                let x = self.nodes[node as usize];
+                if !x.up {
+                    return Err(Refusal(9));
+                }
+                self.cells[at] = Cell::Reply(x.tag, x.value);
+                Ok(Outcome::Handed)
+            }
+            Cell::Put(tag, value) => {
+                let x = &mut self.nodes[node as usize];
+                if !x.up {
+                    return Err(Refusal(9));
+                }
+                if is_greater(tag, x.tag) {
+                    (x.tag, x.value) = (tag, value);
+                }
+                self.cells[at] = Cell::Ack;
+                Ok(Outcome::Handed)
+            }
+            Cell::Reply(tag, value) => self.reply(console, node, at, tag, value),
+            Cell::Ack => self.ack(console, node, at),
+        }
+    }
+
+    pub fn node_down(&mut self, node: u32) -> Result<Outcome, Refusal> {
+        self.ask_question_1()?;
+        if node >= self.n {
+            return Err(Refusal(5));
+        }
+        let x = &mut self.nodes[node as usize];
+        if !x.up {
+            return Err(Refusal(9));
+        }
+        x.up = false;
+        Ok(Outcome::Done)
+    }
+
+    pub fn console_down(&mut self, console: u32) -> Result<Outcome, Refusal> {
+        self.ask_question_1()?;
+        if console >= self.m {
+            return Err(Refusal(4));
+        }
+        let x = &mut self.consoles[console as usize];
+        if x.state == State::Down {
+            return Err(Refusal(6));
+        }
+        *x = resting(State::Down);
+        Ok(Outcome::Done)
+    }
+
+    fn begin(&mut self, console: u32, kind: Kind, wanted: u32) -> Result<Outcome, Refusal> {
+        self.ask_question_1()?;
+        if console >= self.m {
+            return Err(Refusal(4));
+        }
+        let x = &mut self.consoles[console as usize];
+        match x.state {
+            State::Down => return Err(Refusal(6)),
+            State::Asking(_) | State::Telling(_) => return Err(Refusal(7)),
+            State::Idle => {}
+        }
+        *x = resting(State::Asking(kind));
+        x.wanted = wanted;
+        self.send(console, Cell::Ask);
+        Ok(Outcome::Done)
+    }
+
+    fn reply(&mut self, console: u32, node: u32, at: usize, tag: Tag, value: u32) -> Result<Outcome, Refusal> {
+        let q = self.majority();
+        let x = &mut self.consoles[console as usize];
+        let State::Asking(kind) = x.state else {
+            return self.discard(at);
+        };
+        if x.answered >> node & 1 == 1 {
+            return self.discard(at);
+        }
+        let answered = x.answered | 1 << node;
+        let (best, kept) = if is_greater(tag, x.best) { (tag, value) } else { (x.best, x.value) };
+        if answered.count_ones() < q {
+            (x.answered, x.best, x.value) = (answered, best, kept);
+            self.cells[at] = Cell::Nothing;
+            return Ok(Outcome::Heard);
+        }
+        (x.best, x.value) = match kind {
+            Kind::Read => (best, kept),
+            Kind::Write if best.ts >= MAX_TS => return Err(Refusal(10)),
+            Kind::Write => (Tag { ts: best.ts + 1, console }, x.wanted),
+        };
+        x.state = State::Telling(kind);
+        x.answered = 0;
+        let put = Cell::Put(x.best, x.value);
+        self.send(console, put);
+        Ok(Outcome::Turned)
+    }
+
+    fn ack(&mut self, console: u32, node: u32, at: usize) -> Result<Outcome, Refusal> {
+        let q = self.majority();
+        let x = &mut self.consoles[console as usize];
+        if !matches!(x.state, State::Telling(_)) || x.answered >> node & 1 == 1 {
+            return self.discard(at);
+        }
+        x.answered |= 1 << node;
+        self.cells[at] = Cell::Nothing;
+        if x.answered.count_ones() < q {
+            return Ok(Outcome::Heard);
+        }
+        let (tag, value) = (x.best, x.value);
+        *x = resting(State::Idle);
+        Ok(Outcome::Finished { tag, value })
+    }
+
+    fn discard(&mut self, at: usize) -> Result<Outcome, Refusal> {
+        self.cells[at] = Cell::Nothing;
+        Ok(Outcome::Discarded)
+    }
+
+    /// All n cells of the console hold this.
+    fn send(&mut self, console: u32, x: Cell) {
+        let from = console as usize * MAX_NODES;
+        self.cells[from..from + self.n as usize].fill(x);
+    }
+
+    fn majority(&self) -> u32 {
+        self.n / 2 + 1
+    }
+
+    fn ask_question_1(&self) -> Result<(), Refusal> {
+        if CHECKED && !self.is_well_formed() {
+            return Err(Refusal(1));
+        }
+        Ok(())
+    }
+
+    fn is_well_formed(&self) -> bool {
+        let (n, m) = (self.n as usize, self.m as usize);
+        if !(1..=MAX_NODES).contains(&n) || !(1..=MAX_CONSOLES).contains(&m) {
+            return false;
+        }
+        let (nodes, no_nodes) = self.nodes.split_at(n);
+        let (consoles, no_consoles) = self.consoles.split_at(m);
+        let (rows, no_rows) = self.cells.split_at(m * MAX_NODES);
+        all(nodes, |x| is_tag_ok(self.m, x.tag, x.value))
+            && all(no_nodes, |x| *x == FRESH)
+            && all(consoles, |x| self.is_console_ok(x))
+            && all(no_consoles, |x| *x == resting(State::Idle))
+            && rows.chunks_exact(MAX_NODES).fold(true, |ok, row| {
+                let (cells, no_cells) = row.split_at(n);
+                ok & all(cells, |x| is_cell_ok(self.m, x)) & all(no_cells, is_nothing)
+            })
+            && all(no_rows, is_nothing)
+    }
+
+    fn is_console_ok(&self, x: &Console) -> bool {
+        let (kind, best_ok) = match x.state {
+            State::Idle | State::Down => return *x == resting(x.state),
+            State::Asking(kind) => (kind, x.answered != 0 || (x.best == ZERO && x.value == 0)),
+            State::Telling(kind) => (kind, true),
+        };
+        best_ok
+            && is_tag_ok(self.m, x.best, x.value)
+            && x.answered < 1 << self.n
+            && x.answered.count_ones() < self.majority()
+            && (kind == Kind::Write || x.wanted == 0)
+    }
+
+    /// The board in the library's words (crates/words/specs/Words.antt).
+    pub fn words(&self) -> [u32; BOARD_WORDS] {
+        let mut w = [0; BOARD_WORDS];
+        (w[0], w[1]) = (self.n, self.m);
+        for (four, x) in w[2..22].chunks_exact_mut(4).zip(&self.nodes) {
+            four.copy_from_slice(&[u32::from(x.up), x.tag.ts, x.tag.console, x.value]);
+        }
+        for (six, x) in w[22..70].chunks_exact_mut(6).zip(&self.consoles) {
+            let state = match x.state {
+                State::Idle => 0,
+                State::Asking(Kind::Read) => 1,
+                State::Asking(Kind::Write) => 2,
+                State::Telling(Kind::Read) => 3,
+                State::Telling(Kind::Write) => 4,
+                State::Down => 5,
+            };
+            six.copy_from_slice(&[state, x.wanted, x.answered.into(), x.best.ts, x.best.console, x.value]);
+        }
+        for (four, x) in w[70..].chunks_exact_mut(4).zip(&self.cells) {
+            four.copy_from_slice(&match *x {
+                Cell::Nothing => [0; 4],
+                Cell::Ask => [1, 0, 0, 0],
+                Cell::Reply(t, v) => [2, t.ts, t.console, v],
+                Cell::Put(t, v) => [3, t.ts, t.console, v],
+                Cell::Ack => [4, 0, 0, 0],
+            });
+        }
+        w
+    }
+
+    /// The board that these words are.
+    pub fn from_words(w: &[u32; BOARD_WORDS]) -> Self {
+        let tag = |w: &[u32]| Tag { ts: w[0], console: w[1] };
+        Board {
+            n: w[0],
+            m: w[1],
+            nodes: std::array::from_fn(|k| {
+                let four = &w[2 + 4 * k..];
+                Node {
+                    up: four[0] != 0,
+                    tag: tag(&four[1..]),
+                    value: four[3],
+                }
+            }),
+            consoles: std::array::from_fn(|c| {
+                let six = &w[22 + 6 * c..];
+                Console {
+                    state: match six[0] {
+                        0 => State::Idle,
+                        1 => State::Asking(Kind::Read),
+                        2 => State::Asking(Kind::Write),
+                        3 => State::Telling(Kind::Read),
+                        4 => State::Telling(Kind::Write),
+                        _ => State::Down,
+                    },
+                    wanted: six[1],
+                    answered: six[2] as u8,
+                    best: tag(&six[3..]),
+                    value: six[5],
+                }
+            }),
+            cells: std::array::from_fn(|i| {
+                let four = &w[70 + 4 * i..];
+                match four[0] {
+                    0 => Cell::Nothing,
+                    1 => Cell::Ask,
+                    2 => Cell::Reply(tag(&four[1..]), four[3]),
+                    3 => Cell::Put(tag(&four[1..]), four[3]),
+                    _ => Cell::Ack,
+                }
+            }),
+        }
+    }
+}
