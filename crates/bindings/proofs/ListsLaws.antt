@@ -10,23 +10,10 @@ use lib.Dec.{eqb, leb}
 use lib.ListN.{length, length-set}
 use Rattle.board.specs.declared.Answer.{Answer}
 use Rattle.board.specs.declared.Board.{Board}
-use Rattle.board.specs.Answers.{refuse}
 use Rattle.words.specs.Words.{decoded, encoded}
 use Rattle.bindings.specs.declared.Course.{Course}
 use Rattle.bindings.specs.Calls.{said}
-use Rattle.bindings.specs.Lists.{stepOf, stepAt, goOn, after, answers, keptAfter, stepsIn, listShortBy, listCode, Ran}
-
--- ---- steps by number
-
-pub no-such-step : (z x y : ℕ) (b : Board) → 6 ≤ z → refuse 12 b ≡ stepOf z x y b
-unfolding stepOf
-no-such-step zero x y b h = absurd (omega arith)
-no-such-step (suc zero) x y b h = absurd (omega arith)
-no-such-step (suc (suc zero)) x y b h = absurd (omega arith)
-no-such-step (suc (suc (suc zero))) x y b h = absurd (omega arith)
-no-such-step (suc (suc (suc (suc zero)))) x y b h = absurd (omega arith)
-no-such-step (suc (suc (suc (suc (suc zero))))) x y b h = absurd (omega arith)
-no-such-step (suc (suc (suc (suc (suc (suc z)))))) x y b h = refl
+use Rattle.bindings.specs.Lists.{stepAt, goOn, after, answers, keptAfter, stepsIn, listShortBy, listCode, Ran}
 
 -- ---- lengths
 

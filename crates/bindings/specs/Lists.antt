@@ -7,9 +7,7 @@ use lib.Dec.{eqb, leb}
 use lib.ListN.{length}
 use Rattle.board.specs.declared.Answer.{Answer}
 use Rattle.board.specs.declared.Board.{Board}
-use Rattle.board.specs.Answers.{refuse}
-use Rattle.board.specs.Steps.{setupOf, fresh, beginRead, beginWrite, nodeDown, consoleDown}
-use Rattle.board.specs.Deliver.{deliver}
+use Rattle.verbs.specs.Verbs.{stepOf}
 use Rattle.words.specs.Words.{boardWords, word, decoded, encoded}
 use Rattle.bindings.specs.declared.Course.{Course}
 use Rattle.bindings.specs.Calls.{answerWords, said}
@@ -18,18 +16,7 @@ use Rattle.bindings.specs.Calls.{answerWords, said}
 abbrev pub stepWords : ℕ
 stepWords = 3
 
--- a step by its number, with its two numbers x and y in the order in which it names them. From 6 on there is none: refused
--- with 12
-unfoldable pub stepOf : ℕ → ℕ → ℕ → Board → Answer
-stepOf zero x y b = fresh (setupOf x y)
-stepOf (suc zero) x y b = beginRead b x
-stepOf (suc (suc zero)) x y b = beginWrite b x y
-stepOf (suc (suc (suc zero))) x y b = deliver b x y
-stepOf (suc (suc (suc (suc zero)))) x y b = nodeDown b x
-stepOf (suc (suc (suc (suc (suc zero))))) x y b = consoleDown b x
-stepOf (suc (suc (suc (suc (suc (suc z)))))) x y b = refuse 12 b
-
--- the step at place i of the list q: its number and its two numbers
+-- the step at place i of the list q: its verb and its two numbers
 unfoldable pub stepAt : List ℕ → ℕ → Board → Answer
 stepAt q i = stepOf (word q (i * stepWords)) (word q (i * stepWords + 1)) (word q (i * stepWords + 2))
 

@@ -5,43 +5,19 @@ ghost use Prim.Native.Nat.{_+_, _*_, _≤_};
 ghost use lib.ListN.{length};
 ghost use Rattle.words.specs.Words.{boardWords};
 ghost use Rattle.bindings.specs.Calls.{answerWords};
-ghost use Rattle.bindings.specs.Lists.{stepWords, stepOf, stepAt, goOn, after, answers, keptAfter, stepsIn, listShortBy, Ran};
+ghost use Rattle.bindings.specs.Lists.{stepWords, stepAt, goOn, after, answers, keptAfter, stepsIn, listShortBy, Ran};
 use crate::Course;
 use crate::calls::ANSWER_WORDS;
 use crate::calls::put_answer;
 use board::Answer;
 use board::Board;
-use parts::ConsoleId;
-use parts::NodeId;
-use parts::Outcome;
+use verbs::step_of;
 use words::BOARD_WORDS;
 use words::reading::decode;
 use words::writing::encode;
 
 // The words of a step in a list.
 const STEP_WORDS: usize = 3;
-
-// The refusal of a step whose number no step has.
-const NO_SUCH_STEP: u32 = 12;
-
-// The step with this number, put to the board.
-fn step_of(b: Board, step: u32, x: u32, y: u32) -> Answer
-    ensures { λ r. ⌜ r ≡ stepOf step x y b ⌝ }
-{
-    match step {
-        0 => Board::fresh(x, y),
-        1 => b.begin_read(ConsoleId(x)),
-        2 => b.begin_write(ConsoleId(x), y),
-        3 => b.deliver(ConsoleId(x), NodeId(y)),
-        4 => b.node_down(NodeId(x)),
-        5 => b.console_down(ConsoleId(x)),
-        6..=4294967295 => Answer {
-            outcome: Outcome::Refused,
-            refusal: NO_SUCH_STEP,
-            board: b,
-        },
-    }
-}
 
 // What the call returns, by the lengths of what is lent to it.
 fn list_short_by(w: usize, q: usize, s: usize) -> u32

@@ -1,4 +1,4 @@
-// The numbers of document 01's questions: an answer's refusal is that of the first question answered no.
+// The refusals' numbers. Document 01's questions have 1 to 10: an answer's refusal is that of the first question answered no.
 pub const NOT_WELL_FORMED: u32 = 1;
 
 pub const BAD_NODE_COUNT: u32 = 2;
@@ -18,3 +18,10 @@ pub const NO_FRAME: u32 = 8;
 pub const NODE_IS_DOWN: u32 = 9;
 
 pub const TS_USED_UP: u32 = 10;
+
+// Those of a line that is no step (document 02, Paper 1), all before document 01's questions.
+pub const NOT_THREE_FIELDS: u32 = 11;
+
+pub const NO_SUCH_VERB: u32 = 12;
+
+pub const LINE_TOO_LONG: u32 = 13;

@@ -1,10 +1,10 @@
 -- Each arm is a case of the definition.
 use native.Mathlib.Omega.{arith}
-use Rattle.bindings.proofs.ListsLaws.{no-such-step}
-use Rattle.bindings.specs.Lists.{stepOf}
+use Rattle.verbs.proofs.VerbsLaws.{no-such-verb}
+use Rattle.verbs.specs.Verbs.{stepOf}
 use borrow.Author.Needs.{needs}
-use Rattle.bindings.proofs.lists.step_of.Statement.{statement}
-use Rattle.bindings.proofs.lists.step_of.Tie as tie
+use Rattle.verbs.proofs.step_of.Statement.{statement}
+use Rattle.verbs.proofs.step_of.Tie as tie
 
 fresh-requires : tie.Need-fresh-requires
 fresh-requires c κs = search needs
@@ -49,7 +49,7 @@ unfolding stepOf
 returns-6 c = rw (c .before .match .keys6) (c .console-down .ensures)
 
 returns-7 : tie.Need-returns-7
-returns-7 c = no-such-step _ _ _ _ (omega (arith, c .match .rest))
+returns-7 c = no-such-verb _ _ _ _ (omega (arith, c .match .rest))
 
 pub step-of-spec : {M : Type 1} → statement M
 step-of-spec =

@@ -1,0 +1,2 @@
+-- Laws of the verbs.
+pub mod VerbsLaws

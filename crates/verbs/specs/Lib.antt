@@ -1,0 +1,2 @@
+-- The steps by their numbers.
+pub mod Verbs

@@ -1,0 +1,28 @@
+// The verbs: the steps by their numbers, as programs and callers of a list name them.
+ghost use mathlib.Core.Path.{_≡_};
+ghost use Rattle.verbs.specs.Verbs.{stepOf};
+use board::Answer;
+use board::Board;
+use board::refusals::NO_SUCH_VERB;
+use parts::ConsoleId;
+use parts::NodeId;
+use parts::Outcome;
+
+// The step with this number, put to the board with its two numbers. A step that has no use for the second ignores it.
+pub fn step_of(b: Board, verb: u32, x: u32, y: u32) -> Answer
+    ensures { λ r. ⌜ r ≡ stepOf verb x y b ⌝ }
+{
+    match verb {
+        0 => Board::fresh(x, y),
+        1 => b.begin_read(ConsoleId(x)),
+        2 => b.begin_write(ConsoleId(x), y),
+        3 => b.deliver(ConsoleId(x), NodeId(y)),
+        4 => b.node_down(NodeId(x)),
+        5 => b.console_down(ConsoleId(x)),
+        6..=4294967295 => Answer {
+            outcome: Outcome::Refused,
+            refusal: NO_SUCH_VERB,
+            board: b,
+        },
+    }
+}
