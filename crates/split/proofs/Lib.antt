@@ -1,0 +1,2 @@
+-- Laws of the lines of an input.
+pub mod SplitLaws

@@ -1,0 +1,2 @@
+-- The lines of an input.
+pub mod Split
