@@ -1,0 +1,2 @@
+-- Lines that programs read.
+pub mod Lines
