@@ -1,2 +1,3 @@
--- Lines that programs read.
+-- Lines that programs read, and a quoted text as bytes, for examples.
 pub mod Lines
+pub mod Texts

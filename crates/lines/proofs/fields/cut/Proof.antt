@@ -55,4 +55,18 @@ returns-2 c =
 pub cut-spec : {M : Type 1} → statement M
 cut-spec =
     tie.close
-    (tie.spec sub-is-quoted part-is-quoted-start part-is-quoted-end is-quoted-requires add-result sub-result sub-result-2 part-result-start part-result-end returns sub-result-3 part-result-start-2 part-result-end-2 returns-2)
+    (tie.spec
+    sub-is-quoted
+    part-is-quoted-start
+    part-is-quoted-end
+    is-quoted-requires
+    add-result
+    sub-result
+    sub-result-2
+    part-result-start
+    part-result-end
+    returns
+    sub-result-3
+    part-result-start-2
+    part-result-end-2
+    returns-2)

@@ -26,4 +26,10 @@ returns c = (omega (arith, rw take-rest at (c .first-comma .ensures .0)), omega 
 pub end-of-spec : {M : Type 1} → statement M
 end-of-spec =
     tie.close
-    (tie.spec sub-first-comma part-first-comma-start part-first-comma-end first-comma-requires add-result returns)
+    (tie.spec
+    sub-first-comma
+    part-first-comma-start
+    part-first-comma-end
+    first-comma-requires
+    add-result
+    returns)

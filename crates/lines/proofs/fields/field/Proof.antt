@@ -16,12 +16,14 @@ cut-requires : tie.Need-cut-requires
 cut-requires c κs = (omega (arith, c .end-of .ensures .0), c .end-of .ensures .1)
 
 returns : tie.Need-returns
-returns c =
-    let from = c .before .before .start-of .ensures in
-    let to = c .before .end-of .ensures .0 in (
-      c .cut .ensures .0 ∙ marked-field _ _ _ _ (from .0) to,
-      (c .cut .ensures .1 .0, c .cut .ensures .1 .1 ∙ marked-start _ _ _ _ (from .0) to (from .1) _),
-    )
+returns c = (
+  c .cut .ensures .0 ∙ marked-field _ _ _ _ (c .before .before .start-of .ensures .0) (c .before .end-of .ensures .0),
+  (
+    c .cut .ensures .1 .0,
+    c .cut .ensures .1 .1
+        ∙ marked-start _ _ _ _ (c .before .before .start-of .ensures .0) (c .before .end-of .ensures .0) (c .before .before .start-of .ensures .1) _,
+  ),
+)
 
 pub field-spec : {M : Type 1} → statement M
 field-spec =

@@ -39,4 +39,13 @@ returns-2 c = (omega (arith, index-end (c .before .before .args .s .now) commaBy
 pub first-comma-spec : {M : Type 1} → statement M
 first-comma-spec =
     tie.close
-    (tie.spec Inv-loop μ-loop loop-holds shared-slice-read-if1 returns add-i loop-less loop-again returns-2)
+    (tie.spec
+    Inv-loop
+    μ-loop
+    loop-holds
+    shared-slice-read-if1
+    returns
+    add-i
+    loop-less
+    loop-again
+    returns-2)

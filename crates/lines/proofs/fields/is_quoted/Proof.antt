@@ -26,4 +26,10 @@ returns-3 c = sym (quoted-end (c .before .before .before .before .args .s .now) 
 pub is-quoted-spec : {M : Type 1} → statement M
 is-quoted-spec =
     tie.close
-    (tie.spec returns shared-slice-read-if2 returns-2 sub-result shared-slice-read-result returns-3)
+    (tie.spec
+    returns
+    shared-slice-read-if2
+    returns-2
+    sub-result
+    shared-slice-read-result
+    returns-3)

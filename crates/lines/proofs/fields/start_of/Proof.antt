@@ -60,4 +60,16 @@ returns c =
 pub start-of-spec : {M : Type 1} → statement M
 start-of-spec =
     tie.close
-    (tie.spec Inv-loop μ-loop loop-holds sub-past-comma part-past-comma-start part-past-comma-end past-comma-requires add-i sub-left loop-less loop-again returns)
+    (tie.spec
+    Inv-loop
+    μ-loop
+    loop-holds
+    sub-past-comma
+    part-past-comma-start
+    part-past-comma-end
+    past-comma-requires
+    add-i
+    sub-left
+    loop-less
+    loop-again
+    returns)

@@ -72,4 +72,20 @@ returns-5 c = sym (num-some _ (c .before .before .if1 .left) ∙ c .before .loop
 pub number-spec : {M : Type 1} → statement M
 number-spec =
     tie.close
-    (tie.spec Inv-loop μ-loop returns loop-holds shared-slice-read-x returns-2 returns-3 mul-sum wide-requires add-sum returns-4 add-i loop-less loop-again cast-t13 returns-5)
+    (tie.spec
+    Inv-loop
+    μ-loop
+    returns
+    loop-holds
+    shared-slice-read-x
+    returns-2
+    returns-3
+    mul-sum
+    wide-requires
+    add-sum
+    returns-4
+    add-i
+    loop-less
+    loop-again
+    cast-t13
+    returns-5)

@@ -49,4 +49,14 @@ returns c = omega (arith, count-end (c .before .before .before .args .s .now) co
 pub commas-spec : {M : Type 1} → statement M
 commas-spec =
     tie.close
-    (tie.spec Inv-loop μ-loop loop-holds shared-slice-read-one-if-comma one-if-comma-requires add-n add-i loop-less loop-again returns)
+    (tie.spec
+    Inv-loop
+    μ-loop
+    loop-holds
+    shared-slice-read-one-if-comma
+    one-if-comma-requires
+    add-n
+    add-i
+    loop-less
+    loop-again
+    returns)

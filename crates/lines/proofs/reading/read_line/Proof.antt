@@ -43,4 +43,15 @@ returns-3 c =
 pub read-line-spec : {M : Type 1} → statement M
 read-line-spec =
     tie.close
-    (tie.spec returns commas-requires returns-2 field-requires number-requires field-requires-2 number-requires-2 field-requires-3 number-requires-3 three-requires returns-3)
+    (tie.spec
+    returns
+    commas-requires
+    returns-2
+    field-requires
+    number-requires
+    field-requires-2
+    number-requires-2
+    field-requires-3
+    number-requires-3
+    three-requires
+    returns-3)

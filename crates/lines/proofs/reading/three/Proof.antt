@@ -36,4 +36,14 @@ returns-4 c = simp (c .before .before .before .before .before .before .before .a
 pub three-spec : {M : Type 1} → statement M
 three-spec =
     tie.close
-    (tie.spec enum-known-a enum-told returns enum-known-b enum-told-2 returns-2 enum-known-c enum-told-3 returns-3 returns-4)
+    (tie.spec
+    enum-known-a
+    enum-told
+    returns
+    enum-known-b
+    enum-told-2
+    returns-2
+    enum-known-c
+    enum-told-3
+    returns-3
+    returns-4)

@@ -1,0 +1,9 @@
+-- A quoted text as the list of its bytes, so that examples show what they read or write. Of ASCII characters only.
+use Prim.Native.Nat.{ℕ}
+use Prim.Native.Char.{code}
+use Prim.Native.String as string
+use mathlib.Core.List.{List, [], _∷_}
+
+unfoldable pub bytes : string.String → List ℕ
+bytes string.[] = []
+bytes (string._∷_ c s) = code c ∷ bytes s
