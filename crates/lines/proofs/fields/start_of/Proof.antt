@@ -47,7 +47,7 @@ loop-again c =
     let left = c .before .before .before .loop .left in (
       omega (arith, c .past-comma .ensures .1, length-rest line i),
       c .before .before .before .loop .inv .1
-          ∙ from-step _ _ (c .before .before .loop-test .taken)
+          ∙ from-step _ _ (omega (arith, c .before .before .loop-test .taken))
           ∙ ap (λ z. fromField z (left - 1)) (sym (rw take-rest at (c .past-comma .ensures .0)) ∙ drop-drop (c .past-comma .result) i line),
     )
 

@@ -28,7 +28,7 @@ returns-2 : tie.Need-returns-2 Inv-loop μ-loop
 returns-2 c = sym (num-some _ (c .before .before .before .before .if1 .left) ∙ c .before .before .before .loop .inv .1 .1 ∙ read-low _ _ _ (c .before .before .loop-test .taken) (c .if2 .taken))
 
 returns-3 : tie.Need-returns-3 Inv-loop μ-loop
-returns-3 c = sym (num-some _ (c .before .before .before .before .before .if1 .left) ∙ c .before .before .before .before .loop .inv .1 .1 ∙ read-high _ _ _ (c .before .before .before .loop-test .taken) (c .if3 .taken))
+returns-3 c = sym (num-some _ (c .before .before .before .before .before .if1 .left) ∙ c .before .before .before .before .loop .inv .1 .1 ∙ read-high _ _ _ (c .before .before .before .loop-test .taken) (omega (arith, c .if3 .taken)))
 
 mul-sum : tie.Need-mul-sum Inv-loop μ-loop
 mul-sum c = search needs
@@ -45,7 +45,7 @@ returns-4 c =
     (num-some _ (c .before .before .before .before .before .before .before .if1 .left)
     ∙ c .before .before .before .before .before .before .loop .inv .1 .1
     ∙ read-more _ _ _ (c .before .before .before .before .before .loop-test .taken) (c .before .before .before .if2 .left) (c .before .before .if3 .left) _ (c .before .wide .ensures)
-    ∙ read-big _ _ (c .if4 .taken))
+    ∙ read-big _ _ (omega (arith, c .if4 .taken)))
 
 add-i : tie.Need-add-i Inv-loop μ-loop
 add-i c = search needs

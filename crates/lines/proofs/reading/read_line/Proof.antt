@@ -1,12 +1,13 @@
 -- Each way out is one case of the definition: too long (line-long), not two commas (line-few), three fields (line-three).
 use mathlib.Core.Path.{sym, _∙_}
+use native.Mathlib.Omega.{arith}
 use borrow.Author.Needs.{needs}
 use Rattle.lines.proofs.LinesLaws.{line-long, line-few, line-three}
 use Rattle.lines.proofs.reading.read_line.Statement.{statement}
 use Rattle.lines.proofs.reading.read_line.Tie as tie
 
 returns : tie.Need-returns
-returns c = sym (line-long _ (c .if1 .taken))
+returns c = sym (line-long _ (omega (arith, c .if1 .taken)))
 
 commas-requires : tie.Need-commas-requires
 commas-requires c κs = search needs

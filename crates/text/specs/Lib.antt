@@ -1,0 +1,2 @@
+-- Lines that programs write.
+pub mod Text
