@@ -59,7 +59,7 @@ fn put_word(out: &mut [u8], at: usize, n: u32, end: u8) -> usize
 // The row as a line, with its LF.
 pub fn put_line(out: &mut [u8], at: usize, row: Row) -> usize
     requires { ⌜ at + lineBytes ≤ length (now out) ⌝ }
-    ensures { λ r. ⌜ (r ≡ at + length (lineText row)) × (now (out .exit) ≡ sets (now (out .entry)) at (lineText row)) ⌝ }
+    ensures { λ r. ⌜ (r ≤ at + lineBytes) × (r ≡ at + length (lineText row)) × (now (out .exit) ≡ sets (now (out .entry)) at (lineText row)) ⌝ }
 {
     let p = put_field(out, at, row.number, b',');
     let q = put_word(out, p, row.refusal, b',');

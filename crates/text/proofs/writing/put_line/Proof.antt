@@ -38,6 +38,7 @@ returns c =
     let refusal = outcome .before .before .before .before in
     let number = refusal .before .before .before .before in
     let row = number .before .before .before .args .row in (
+      omega (arith, field-short (row .number) commaByte),
       omega (arith, line-length row),
       value .put-word5 .ensures .1
           ∙ rw (console .put-word4 .ensures .1, ts .put-word3 .ensures .1, outcome .put-word2 .ensures .1, refusal .put-word .ensures .1, number .put-field .ensures .1)

@@ -1,0 +1,173 @@
+-- Laws of one line of a chunk: where the run stands after the bytes up to its LF, and after that.
+use Prim.Native.Nat.{ℕ, zero, suc, _+_, _-_, _≤_, _<_, min}
+use mathlib.Core.Bool.{Bool, true, false, cond}
+use mathlib.Core.List.{List, [], _∷_, _++_, append-assoc, append-nil}
+use mathlib.Core.Path.{_≡_, refl, sym, ap, _∙_}
+use native.Mathlib.Nat.{min-eq-left}
+use native.Mathlib.Omega.{arith}
+use borrow.Author.Tests.{eqb-true, leb-true, leb-false}
+use lib.Dec.{eqb, leb}
+use lib.ListN.{length, take, drop, getD, length-take, length-drop}
+use lib.Seq.{take-all, take-length, take-suc, take-add, drop-drop, append-snoc}
+use Rattle.board.specs.declared.Board.{Board}
+use Rattle.board.specs.Answers.{guarded}
+use Rattle.board.specs.Boards.{freshBoard}
+use Rattle.board.specs.Steps.{setupOf, smallest, fresh}
+use Rattle.checks.specs.Clauses.{nodesAllowed, consolesAllowed}
+use Rattle.bytes.specs.Bytes.{indexOf, indexAfter, slice}
+use Rattle.split.specs.Split.{lf, chop, heldBytes}
+use Rattle.schedule.specs.Schedule.{effectOf, nextNumber}
+use Rattle.schedule.specs.Chunks.{Session, start, afterByte, textAt, afterBytes, textOf, textAtEnd, lastText, startRack, sessionOf, part}
+use Rattle.schedule.proofs.Whole.{take-again, byte-after, byte-text, lf-after, lf-text, after-append, text-append}
+
+-- ---- the bytes before the first LF
+
+abbrev withHeld : Session → List ℕ → Session
+withHeld s l = record { held = l; board = s .board; number = s .number }
+
+index-miss : (x : ℕ) (t : List ℕ) → eqb x lf ≡ false → indexOf lf (x ∷ t) ≡ suc (indexOf lf t)
+unfolding indexOf indexAfter
+index-miss x t e = rw e
+
+index-hit : (x : ℕ) (t : List ℕ) → eqb x lf ≡ true → indexOf lf (x ∷ t) ≡ 0
+unfolding indexOf indexAfter
+index-hit x t e = rw e
+
+-- the byte at the place of the first LF
+at-index : (t : List ℕ) → indexOf lf t < length t → getD t (indexOf lf t) 0 ≡ lf
+unfolding indexOf
+at-index [] h = absurd (omega arith)
+at-index (x ∷ t) h = go (at-index t) (eqb x lf) refl
+  where
+    go : (indexOf lf t < length t → getD t (indexOf lf t) 0 ≡ lf) → (z : Bool) → eqb x lf ≡ z → getD (x ∷ t) (indexOf lf (x ∷ t)) 0 ≡ lf
+    go ih true e = rw (index-hit x t e) (eqb-true x lf e)
+    go ih false e = rw (index-miss x t e) (ih (omega (arith, h, index-miss x t e)))
+
+abbrev Quiet : List ℕ → Type 0
+Quiet t = (s : Session) → length (s .held) ≤ heldBytes → (afterBytes s (take (indexOf lf t) t) ≡ withHeld s (take heldBytes (s .held ++ take (indexOf lf t) t))) × (textOf s (take (indexOf lf t) t) ≡ [])
+
+quiet-none : (s : Session) → length (s .held) ≤ heldBytes → s ≡ withHeld s (take heldBytes (s .held ++ []))
+quiet-none s h = ap (withHeld s) (sym (take-all heldBytes (s .held) h) ∙ ap (take heldBytes) (sym (append-nil (s .held))))
+
+quiet-more : (x : ℕ) (t : List ℕ) → Quiet t → (z : Bool) → eqb x lf ≡ z → Quiet (x ∷ t)
+unfolding afterBytes textOf
+quiet-more x t ih true e s h = rw (index-hit x t e) (quiet-none s h, refl)
+quiet-more x t ih false e s h =
+    let k : ℕ = indexOf lf t in
+    let y : Session = withHeld s (take heldBytes (s .held ++ (x ∷ []))) in
+    let few : length (take heldBytes (s .held ++ (x ∷ []))) ≤ heldBytes = omega (arith, length-take heldBytes (s .held ++ (x ∷ []))) in
+    rw (index-miss x t e) (
+      ap (λ (z : Session). afterBytes z (take k t)) (byte-after s x e)
+          ∙ ih y few .0
+          ∙ ap (withHeld s) (take-again heldBytes (s .held ++ (x ∷ [])) (take k t) ∙ ap (take heldBytes) (append-assoc (s .held) (x ∷ []) (take k t))),
+      ap (λ (u : List ℕ). u ++ textOf (afterByte s x) (take k t)) (byte-text s x e)
+          ∙ ap (λ (z : Session). textOf z (take k t)) (byte-after s x e)
+          ∙ ih y few .1,
+    )
+
+quiet : (t : List ℕ) → Quiet t
+unfolding afterBytes textOf indexOf
+quiet [] s h = (quiet-none s h, refl)
+quiet (x ∷ t) s h = quiet-more x t (quiet t) (eqb x lf) refl s h
+
+-- ---- a line of the chunk, from place i on: e is the place of its LF, or the chunk's end
+
+module _ (s : Session) (chunk : List ℕ) (i e : ℕ) (few : length (s .held) ≤ heldBytes) (inside : i ≤ length chunk) (found : e ≡ i + indexOf lf (slice i (length chunk) chunk)) where
+  rest-is : slice i (length chunk) chunk ≡ drop i chunk
+  unfolding slice
+  rest-is = ap (drop i) (take-length chunk)
+
+  index-is : indexOf lf (drop i chunk) ≡ e - i
+  index-is = ap (indexOf lf) (sym rest-is) ∙ omega (arith, found)
+
+  -- what the bytes before e leave
+  abbrev Before : Session
+  Before = withHeld s (take heldBytes (s .held ++ part i e chunk))
+
+  pub before-lf : afterBytes s (part i e chunk) ≡ Before
+  before-lf = rw index-is at (quiet (drop i chunk) s few .0)
+
+  pub before-lf-text : textOf s (part i e chunk) ≡ []
+  before-lf-text = rw index-is at (quiet (drop i chunk) s few .1)
+
+  module _ (more : e < length chunk) where
+    with-lf : part i (e + 1) chunk ≡ part i e chunk ++ (lf ∷ [])
+    with-lf =
+        let n : e + 1 - i ≡ suc (e - i) = omega (arith, found) in
+        let in-rest : e - i < length (drop i chunk) = omega (arith, length-drop i chunk, found) in
+        let is-lf : getD (drop i chunk) (e - i) 0 ≡ lf = rw index-is at (at-index (drop i chunk) (omega (arith, index-is, in-rest))) in
+        ap (λ (k : ℕ). take k (drop i chunk)) n ∙ take-suc (drop i chunk) (e - i) 0 in-rest ∙ rw is-lf refl
+
+    pub after-lf : afterBytes s (part i (e + 1) chunk)
+        ≡ record { held = []; board = effectOf (s .board) (s .number) (chop (take heldBytes (s .held ++ part i e chunk))) .board; number = nextNumber (s .number) }
+    unfolding afterBytes
+    after-lf =
+        ap (afterBytes s) with-lf
+        ∙ after-append s (part i e chunk) (lf ∷ [])
+        ∙ ap (λ (z : Session). afterByte z lf) before-lf
+        ∙ lf-after Before lf refl
+
+    pub after-lf-text : textOf s (part i (e + 1) chunk) ≡ effectOf (s .board) (s .number) (chop (take heldBytes (s .held ++ part i e chunk))) .text
+    unfolding textOf
+    after-lf-text =
+        ap (textOf s) with-lf
+        ∙ text-append s (part i e chunk) (lf ∷ [])
+        ∙ ap (λ (t : List ℕ). t ++ textOf (afterBytes s (part i e chunk)) (lf ∷ [])) before-lf-text
+        ∙ append-nil (textAt (afterBytes s (part i e chunk)) lf)
+        ∙ ap (λ (z : Session). textAt z lf) before-lf
+        ∙ lf-text Before lf refl
+
+-- ---- a chunk, line by line
+
+module _ (s : Session) (chunk : List ℕ) (i j : ℕ) (le : i ≤ j) where
+  taken-more : take i chunk ++ part i j chunk ≡ take j chunk
+  taken-more =
+      let n : i + (j - i) ≡ j = omega arith in
+      sym (take-add i (j - i) chunk) ∙ ap (λ (k : ℕ). take k chunk) n
+
+  pub after-more : (z : Session) → z ≡ afterBytes s (take i chunk) → afterBytes z (part i j chunk) ≡ afterBytes s (take j chunk)
+  after-more z e = ap (λ (y : Session). afterBytes y (part i j chunk)) e ∙ sym (after-append s (take i chunk) (part i j chunk)) ∙ ap (afterBytes s) taken-more
+
+  pub text-more : (z : Session) → z ≡ afterBytes s (take i chunk) → textOf s (take i chunk) ++ textOf z (part i j chunk) ≡ textOf s (take j chunk)
+  text-more z e =
+      ap (λ (y : Session). textOf s (take i chunk) ++ textOf y (part i j chunk)) e
+      ∙ sym (text-append s (take i chunk) (part i j chunk))
+      ∙ ap (textOf s) taken-more
+
+-- ---- no more than there are
+
+pub take-least : (l : List ℕ) (n k : ℕ) → k ≡ min n (length l) → take k l ≡ take n l
+take-least l n k e = go (leb n (length l)) refl
+  where
+    go : (t : Bool) → leb n (length l) ≡ t → take k l ≡ take n l
+    go true f = ap (λ (i : ℕ). take i l) (e ∙ min-eq-left (leb-true n (length l) f))
+    go false f =
+        let all : length l ≤ k = omega (arith, e, leb-false n (length l) f) in
+        let more : length l ≤ n = omega (arith, leb-false n (length l) f) in
+        take-all k l all ∙ sym (take-all n l more)
+
+-- ---- the beginning and the end
+
+pub starts : (line : List ℕ) → sessionOf startRack line ≡ start
+unfolding startRack
+starts line = refl
+
+pub first-board : fresh (setupOf 1 1) .board ≡ freshBoard smallest
+unfolding fresh guarded nodesAllowed consolesAllowed
+first-board = refl
+
+none : (l : List ℕ) (b : Board) (n : ℕ) → length l ≡ 0 → textAtEnd l b n ≡ []
+unfolding textAtEnd
+none [] b n h = refl
+none (x ∷ l) b n h = absurd (omega (arith, h))
+
+some : (l : List ℕ) (b : Board) (n : ℕ) → (length l ≡ 0 → ⊥) → textAtEnd l b n ≡ effectOf b n l .text
+unfolding textAtEnd
+some [] b n h = absurd (h refl)
+some (x ∷ l) b n h = refl
+
+pub no-last : (s : Session) → length (s .held) ≡ 0 → lastText s ≡ []
+no-last s h = none (s .held) (s .board) (s .number) h
+
+pub a-last : (s : Session) → (length (s .held) ≡ 0 → ⊥) → lastText s ≡ effectOf (s .board) (s .number) (s .held) .text
+a-last s h = some (s .held) (s .board) (s .number) h

@@ -1,0 +1,49 @@
+-- Nothing is held (no-last), or what is held is a line (a-last).
+use Prim.Native.Nat.{ℕ}
+use mathlib.Core.List.{List}
+use mathlib.Core.Path.{_≡_, sym, ap, _∙_}
+use native.Mathlib.Omega.{arith}
+use lib.ListN.{length, take, length-take}
+use lib.Seq.{sets, length-take-le}
+use Rattle.schedule.specs.Schedule.{effectOf}
+use Rattle.schedule.specs.Chunks.{Session, sessionOf}
+use Rattle.schedule.proofs.ChunksLaws.{take-least, no-last, a-last}
+use borrow.Author.Needs.{needs}
+use Rattle.schedule.proofs.chunks.take_last.Statement.{statement}
+use Rattle.schedule.proofs.chunks.take_last.Tie as tie
+
+least-requires : tie.Need-least-requires
+least-requires c κs = search needs
+
+returns : tie.Need-returns
+returns c =
+    let s : Session = sessionOf (c .before .before .before .before .args .s) (c .before .before .before .before .args .line .now) in
+    let none = no-last s (omega (arith, length-take (c .before .before .before .before .args .s .held) (c .before .before .before .before .args .line .now))) in
+    (omega (arith, ap length none), sym (ap (sets (c .before .before .before .before .args .out .now) 0) none))
+
+slice-aggregate-run-line : tie.Need-slice-aggregate-run-line
+slice-aggregate-run-line c = sym (length-take-le _ _ (omega arith))
+
+run-line-requires : tie.Need-run-line-requires
+run-line-requires c κs = search needs
+
+same-length : tie.Need-same-length
+same-length c = search needs
+
+returns-2 : tie.Need-returns-2
+returns-2 c =
+    let s : Session = sessionOf (c .before .before .before .before .before .before .before .before .before .args .s) (c .before .before .before .before .before .before .before .before .before .args .line .now) in
+    let held : take (c .before .before .before .before .before .before .least .result) (c .before .before .before .before .before .before .before .before .before .args .line .now) ≡ s .held = take-least (c .before .before .before .before .before .before .before .before .before .args .line .now) (c .before .before .before .before .before .before .before .before .before .args .s .held) (c .before .before .before .before .before .before .least .result) (c .before .before .before .before .before .before .least .ensures) in
+    let text = a-last s (λ e. absurd (omega (arith, e, length-take (c .before .before .before .before .before .before .before .before .before .args .s .held) (c .before .before .before .before .before .before .before .before .before .args .line .now)))) ∙ sym (ap (λ (l : List ℕ). effectOf (s .board) (s .number) l .text) held) in
+    (omega (arith, c .before .before .run-line .ensures .2, ap length text), rw text (c .before .before .run-line .ensures .3))
+
+pub take-last-spec : {M : Type 1} → statement M
+take-last-spec =
+    tie.close
+    (tie.spec
+    least-requires
+    returns
+    slice-aggregate-run-line
+    run-line-requires
+    same-length
+    returns-2)

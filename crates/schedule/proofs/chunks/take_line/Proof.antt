@@ -1,0 +1,111 @@
+-- Either the chunk ends before the line does (before-lf), or its LF is there (after-lf). What is held is what `hold` and `chopped`
+-- leave of it.
+use Prim.Native.Nat.{ℕ, _+_, _≤_, _<_}
+use mathlib.Core.List.{List, _++_}
+use mathlib.Core.Path.{_≡_, sym, ap, _∙_}
+use native.Mathlib.Omega.{arith}
+use lib.ListN.{length, take, length-take}
+use lib.Seq.{sets, length-take-le}
+use Rattle.split.specs.Split.{chop, heldBytes}
+use Rattle.schedule.specs.Schedule.{effectOf}
+use Rattle.schedule.specs.Chunks.{Session, sessionOf, part}
+use Rattle.schedule.proofs.ChunksLaws.{before-lf, before-lf-text, after-lf, after-lf-text}
+use borrow.Author.Needs.{needs}
+use Rattle.schedule.proofs.chunks.take_line.Statement.{statement}
+use Rattle.schedule.proofs.chunks.take_line.Tie as tie
+
+find-requires : tie.Need-find-requires
+find-requires c κs = search needs
+
+sub-hold : tie.Need-sub-hold
+sub-hold c = search needs
+
+part-hold-start : tie.Need-part-hold-start
+part-hold-start c = search needs
+
+part-hold-end : tie.Need-part-hold-end
+part-hold-end c = search needs
+
+hold-requires : tie.Need-hold-requires
+hold-requires c κs = search needs
+
+same-length : tie.Need-same-length
+same-length c = search needs
+
+returns : tie.Need-returns
+returns c =
+    let s : Session = sessionOf (c .before .before .before .before .before .before .before .before .before .before .before .args .s) (c .before .before .before .before .before .before .before .before .before .before .before .args .line .now) in
+    let few : length (s .held) ≤ heldBytes = omega (arith, length-take (c .before .before .before .before .before .before .before .before .before .before .before .args .s .held) (c .before .before .before .before .before .before .before .before .before .before .before .args .line .now)) in
+    let inside : c .before .before .before .before .before .before .before .before .before .before .before .args .s .took ≤ length (c .before .before .before .before .before .before .before .before .before .before .before .args .chunk .now) = omega arith in
+    let held : take (c .before .before .before .before .hold .result) (c .before .before .before .before .hold .last .0) ≡ take heldBytes (s .held ++ part (c .before .before .before .before .before .before .before .before .before .before .before .args .s .took) (c .before .before .before .before .before .before .before .find .result) (c .before .before .before .before .before .before .before .before .before .before .before .args .chunk .now)) =
+    c .before .before .before .before .hold .ensures .1 ∙ ap (λ (n : ℕ). take n (s .held ++ part (c .before .before .before .before .before .before .before .before .before .before .before .args .s .took) (c .before .before .before .before .before .before .before .find .result) (c .before .before .before .before .before .before .before .before .before .before .before .args .chunk .now))) (c .before .before .before .before .before .before .before .before .before .before .before .pre .1) in
+    let text = before-lf-text s (c .before .before .before .before .before .before .before .before .before .before .before .args .chunk .now) (c .before .before .before .before .before .before .before .before .before .before .before .args .s .took) (c .before .before .before .before .before .before .before .find .result) few inside (c .before .before .before .before .before .before .before .find .ensures .0) in (
+      (omega arith, omega arith, omega arith, omega arith),
+      (
+        ap (λ (l : List ℕ). record { held = l; board = s .board; number = s .number }) held ∙ sym (before-lf s (c .before .before .before .before .before .before .before .before .before .before .before .args .chunk .now) (c .before .before .before .before .before .before .before .before .before .before .before .args .s .took) (c .before .before .before .before .before .before .before .find .result) few inside (c .before .before .before .before .before .before .before .find .ensures .0)),
+        (omega (arith, ap length text), sym (ap (sets (c .before .before .before .before .before .before .before .before .before .before .before .args .out .now) (c .before .before .before .before .before .before .before .before .before .before .before .args .s .wrote)) text)),
+      ),
+    )
+
+chopped-requires : tie.Need-chopped-requires
+chopped-requires c κs = search needs
+
+slice-reshare-prefix-run-line : tie.Need-slice-reshare-prefix-run-line
+slice-reshare-prefix-run-line c = search needs
+
+slice-aggregate-run-line : tie.Need-slice-aggregate-run-line
+slice-aggregate-run-line c = sym (length-take-le _ _ (omega arith))
+
+run-line-requires : tie.Need-run-line-requires
+run-line-requires c κs = search needs
+
+next-number-requires : tie.Need-next-number-requires
+next-number-requires c κs = search needs
+
+add-t12 : tie.Need-add-t12
+add-t12 c =
+    record { fits = omega (arith, c .before .before .before .before .before .before .before .before .before .before .before .before .before .before .before .before .before .before .before .good .1 .1 .0) }
+
+same-length-2 : tie.Need-same-length-2
+same-length-2 c = search needs
+
+same-length-3 : tie.Need-same-length-3
+same-length-3 c = search needs
+
+returns-2 : tie.Need-returns-2
+returns-2 c =
+    let s : Session = sessionOf (c .before .before .before .before .before .before .before .before .before .before .before .before .before .before .before .before .before .before .before .args .s) (c .before .before .before .before .before .before .before .before .before .before .before .before .before .before .before .before .before .before .before .args .line .now) in
+    let few : length (s .held) ≤ heldBytes = omega (arith, length-take (c .before .before .before .before .before .before .before .before .before .before .before .before .before .before .before .before .before .before .before .args .s .held) (c .before .before .before .before .before .before .before .before .before .before .before .before .before .before .before .before .before .before .before .args .line .now)) in
+    let inside : c .before .before .before .before .before .before .before .before .before .before .before .before .before .before .before .before .before .before .before .args .s .took ≤ length (c .before .before .before .before .before .before .before .before .before .before .before .before .before .before .before .before .before .before .before .args .chunk .now) = omega arith in
+    let held : take (c .before .before .before .before .before .before .before .before .before .before .before .before .hold .result) (c .before .before .before .before .before .before .before .before .before .before .before .before .hold .last .0) ≡ take heldBytes (s .held ++ part (c .before .before .before .before .before .before .before .before .before .before .before .before .before .before .before .before .before .before .before .args .s .took) (c .before .before .before .before .before .before .before .before .before .before .before .before .before .before .before .find .result) (c .before .before .before .before .before .before .before .before .before .before .before .before .before .before .before .before .before .before .before .args .chunk .now)) =
+    c .before .before .before .before .before .before .before .before .before .before .before .before .hold .ensures .1 ∙ ap (λ (n : ℕ). take n (s .held ++ part (c .before .before .before .before .before .before .before .before .before .before .before .before .before .before .before .before .before .before .before .args .s .took) (c .before .before .before .before .before .before .before .before .before .before .before .before .before .before .before .find .result) (c .before .before .before .before .before .before .before .before .before .before .before .before .before .before .before .before .before .before .before .args .chunk .now))) (c .before .before .before .before .before .before .before .before .before .before .before .before .before .before .before .before .before .before .before .pre .1) in
+    let more : c .before .before .before .before .before .before .before .before .before .before .before .before .before .before .before .find .result < length (c .before .before .before .before .before .before .before .before .before .before .before .before .before .before .before .before .before .before .before .args .chunk .now) = omega arith in
+    let line : take (c .before .before .before .before .before .before .before .chopped .result) (c .before .before .before .before .before .before .before .before .before .before .before .before .hold .last .0) ≡ chop (take heldBytes (s .held ++ part (c .before .before .before .before .before .before .before .before .before .before .before .before .before .before .before .before .before .before .before .args .s .took) (c .before .before .before .before .before .before .before .before .before .before .before .before .before .before .before .find .result) (c .before .before .before .before .before .before .before .before .before .before .before .before .before .before .before .before .before .before .before .args .chunk .now))) = c .before .before .before .before .before .before .before .chopped .ensures .1 ∙ ap chop held in
+    let text = after-lf-text s (c .before .before .before .before .before .before .before .before .before .before .before .before .before .before .before .before .before .before .before .args .chunk .now) (c .before .before .before .before .before .before .before .before .before .before .before .before .before .before .before .before .before .before .before .args .s .took) (c .before .before .before .before .before .before .before .before .before .before .before .before .before .before .before .find .result) few inside (c .before .before .before .before .before .before .before .before .before .before .before .before .before .before .before .find .ensures .0) more ∙ sym (ap (λ (l : List ℕ). effectOf (s .board) (s .number) l .text) line) in (
+      (omega arith, omega arith, omega arith, c .before .before .before .before .run-line .ensures .0),
+      (
+        rw (c .before .before .before .before .run-line .ensures .1, c .next-number .ensures, line) (sym (after-lf s (c .before .before .before .before .before .before .before .before .before .before .before .before .before .before .before .before .before .before .before .args .chunk .now) (c .before .before .before .before .before .before .before .before .before .before .before .before .before .before .before .before .before .before .before .args .s .took) (c .before .before .before .before .before .before .before .before .before .before .before .before .before .before .before .find .result) few inside (c .before .before .before .before .before .before .before .before .before .before .before .before .before .before .before .find .ensures .0) more)),
+        (rw text (c .before .before .before .before .run-line .ensures .2), rw text (c .before .before .before .before .run-line .ensures .3)),
+      ),
+    )
+
+pub take-line-spec : {M : Type 1} → statement M
+take-line-spec =
+    tie.close
+    (tie.spec
+    find-requires
+    sub-hold
+    part-hold-start
+    part-hold-end
+    hold-requires
+    same-length
+    returns
+    chopped-requires
+    slice-reshare-prefix-run-line
+    slice-aggregate-run-line
+    run-line-requires
+    next-number-requires
+    add-t12
+    same-length-2
+    same-length-3
+    returns-2)

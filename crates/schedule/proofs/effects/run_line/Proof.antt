@@ -1,0 +1,38 @@
+-- The answer, its row and the board after it, each by the definition.
+use mathlib.Core.Path.{ap, _∙_}
+use lib.ListN.{length}
+use lib.Seq.{length-sets}
+use Rattle.schedule.specs.Schedule.{effectOf}
+use borrow.Author.Needs.{needs}
+use Rattle.schedule.proofs.effects.run_line.Statement.{statement}
+use Rattle.schedule.proofs.effects.run_line.Tie as tie
+
+answer-to-requires : tie.Need-answer-to-requires
+answer-to-requires c κs = search needs
+
+row-of-requires : tie.Need-row-of-requires
+row-of-requires c κs = search needs
+
+put-line-requires : tie.Need-put-line-requires
+put-line-requires c κs = search needs
+
+board-after-requires : tie.Need-board-after-requires
+board-after-requires c κs = search needs
+
+same-length : tie.Need-same-length
+same-length c = search needs
+
+returns : tie.Need-returns
+unfolding effectOf
+returns c = (c .before .before .before .put-line .ensures .0, rw (c .board-after .ensures, c .before .before .before .before .before .before .answer-to .ensures), rw (c .before .before .before .before .row-of .ensures, c .before .before .before .before .before .before .answer-to .ensures) at (c .before .before .before .put-line .ensures .1), rw (c .before .before .before .before .row-of .ensures, c .before .before .before .before .before .before .answer-to .ensures) at (c .before .before .before .put-line .ensures .2))
+
+pub run-line-spec : {M : Type 1} → statement M
+run-line-spec =
+    tie.close
+    (tie.spec
+    answer-to-requires
+    row-of-requires
+    put-line-requires
+    board-after-requires
+    same-length
+    returns)

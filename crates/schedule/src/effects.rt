@@ -1,0 +1,93 @@
+// What one line comes to (effectOf).
+ghost use mathlib.Core.Path.{_≡_};
+ghost use Prim.Native.Nat.{_+_, _≤_};
+ghost use lib.ListN.{length};
+ghost use lib.Seq.{sets};
+ghost use Rattle.text.specs.Text.{lineBytes};
+ghost use Rattle.board.specs.Answers.{refuse};
+ghost use Rattle.schedule.specs.Schedule.{answerTo, boardAfter, rowOf, effectOf, nextNumber};
+use crate::Ran;
+use board::Answer;
+use board::Board;
+use board::refusals::LINE_TOO_LONG;
+use board::refusals::NOT_THREE_FIELDS;
+use lines::Line;
+use lines::reading::read_line;
+use parts::Outcome;
+use text::Row;
+use text::writing::put_line;
+use verbs::step_of;
+
+// The number of the line after line n.
+pub(crate) fn next_number(n: u64) -> u64
+    ensures { λ r. ⌜ r ≡ nextNumber n ⌝ }
+{
+    if n < u64::MAX {
+        return n + 1;
+    }
+    n
+}
+
+fn refused(refusal: u32, b: Board) -> Answer
+    ensures { λ r. ⌜ r ≡ refuse refusal b ⌝ }
+{
+    Answer {
+        outcome: Outcome::Refused,
+        refusal: refusal,
+        board: b,
+    }
+}
+
+// The answer to a line.
+fn answer_to(line: &[u8], b: Board) -> Answer
+    ensures { λ r. ⌜ r ≡ answerTo (now (line .entry)) b ⌝ }
+{
+    let l = read_line(line);
+    match l {
+        Line::TooLong => refused(LINE_TOO_LONG, b),
+        Line::NotThree => refused(NOT_THREE_FIELDS, b),
+        Line::Numbers(verb, x, y) => step_of(b, verb, x, y),
+    }
+}
+
+// A refused line leaves the board as it was.
+fn board_after(b: Board, a: Answer) -> Board
+    ensures { λ r. ⌜ r ≡ boardAfter b a ⌝ }
+{
+    if a.refusal != 0 {
+        return b;
+    }
+    let next = a.board;
+    next
+}
+
+// The fields of the output line.
+fn row_of(number: u64, a: Answer) -> Row
+    ensures { λ r. ⌜ r ≡ rowOf number a ⌝ }
+{
+    let o = a.outcome;
+    let t = o.tag();
+    Row {
+        number: number,
+        refusal: a.refusal,
+        outcome: o.number(),
+        ts: t.ts,
+        console: t.console,
+        value: o.value(),
+    }
+}
+
+// Puts the line with this number to the board, and its output line into out at the place at. The caller has seen that an output
+// line has room there.
+pub(crate) fn run_line(b: Board, number: u64, line: &[u8], out: &mut [u8], at: usize) -> Ran
+    requires { ⌜ at + lineBytes ≤ length (now out) ⌝ }
+    ensures { λ r. ⌜ (r .wrote ≤ at + lineBytes) × (r .board ≡ effectOf b number (now (line .entry)) .board) × (r .wrote ≡ at + length (effectOf b number (now (line .entry)) .text)) × (now (out .exit) ≡ sets (now (out .entry)) at (effectOf b number (now (line .entry)) .text)) ⌝ }
+{
+    let a = answer_to(line, b);
+    let end = put_line(out, at, row_of(number, a));
+    let next = board_after(b, a);
+    Ran {
+        board: next,
+        wrote: end,
+    }
+}
