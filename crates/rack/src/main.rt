@@ -1,0 +1,94 @@
+// Reads a schedule from standard input and answers each of its lines on standard output. All that a line comes to is done by the
+// crate schedule; this program only reads and writes. If it cannot, it says why in one line on standard error and stops.
+use libc::STDIN_FILENO;
+use libc::STDOUT_FILENO;
+use schedule::Rack;
+use schedule::chunks::CHUNK_BYTES;
+use schedule::chunks::OUT_BYTES;
+use schedule::chunks::run_chunk;
+use schedule::chunks::run_end;
+use schedule::chunks::start;
+use split::HELD_BYTES;
+
+// A run, whether there may be more input, and whether all reads and writes went well so far.
+struct Course {
+    rack: Rack,
+    goes_on: bool,
+    is_well: bool,
+}
+
+// Writes the first n bytes of the output.
+fn write_first(out: &[u8], n: usize) -> bool {
+    if n > out.len() {
+        return false;
+    }
+    let is_written = io::write_all(STDOUT_FILENO, &out[0..n]);
+    if !is_written {
+        os::fail(b"rack: the output cannot be written");
+    }
+    is_written
+}
+
+fn over(rack: Rack, is_well: bool) -> Course {
+    Course {
+        rack: rack,
+        goes_on: false,
+        is_well: is_well,
+    }
+}
+
+// Reads once, and answers what came.
+fn read_some(rack: Rack, line: &mut [u8; HELD_BYTES], out: &mut [u8; OUT_BYTES]) -> Course {
+    let mut chunk = [0u8; CHUNK_BYTES];
+    let got = libc::read(STDIN_FILENO, &mut chunk);
+    if got < 0 {
+        os::fail(b"rack: the input cannot be read");
+        return over(rack, false);
+    }
+    if got == 0 {
+        return over(rack, true);
+    }
+    let n = io::count(got, &chunk);
+    let next = run_chunk(rack, line, &chunk, n, out);
+    let is_written = write_first(out, next.wrote);
+    Course {
+        rack: next,
+        goes_on: is_written,
+        is_well: is_written,
+    }
+}
+
+// A proved loop has to end, and nothing says that an input does: so this one counts its turns down, from a number that no run uses
+// up.
+fn read_all(line: &mut [u8; HELD_BYTES], out: &mut [u8; OUT_BYTES]) -> Course {
+    let rack = start();
+    let mut c = Course {
+        rack: rack,
+        goes_on: true,
+        is_well: true,
+    };
+    let mut turns = u64::MAX;
+    while turns > 0 {
+        if !c.goes_on {
+            return c;
+        }
+        c = read_some(c.rack, line, out);
+        turns -= 1;
+    }
+    c
+}
+
+// Answers the last line, if no LF ends it.
+fn finish(rack: Rack, line: &[u8; HELD_BYTES], out: &mut [u8; OUT_BYTES]) {
+    let n = run_end(rack, line, out);
+    write_first(out, n);
+}
+
+fn main() {
+    let mut line = [0u8; HELD_BYTES];
+    let mut out = [0u8; OUT_BYTES];
+    let c = read_all(&mut line, &mut out);
+    if c.is_well {
+        finish(c.rack, &line, &mut out);
+    }
+}
