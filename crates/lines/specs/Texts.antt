@@ -1,4 +1,5 @@
--- A quoted text as the list of its bytes, so that examples show what they read or write. Of ASCII characters only.
+-- A quoted text as the list of its bytes, so that examples show what they read or write. It is for ASCII, where a character's
+-- code is its byte.
 use Prim.Native.Nat.{ℕ}
 use Prim.Native.Char.{code}
 use Prim.Native.String as string

@@ -69,7 +69,8 @@ fn is_quoted(s: &[u8]) -> bool
 fn cut(line: &[u8], a: usize, e: usize) -> &[u8]
     requires { ⌜ (a ≤ e) × (e ≤ length (now line)) ⌝ }
     ensures { λ r. ⌜ (now r ≡ unquoted (take (e - a) (drop a (now (line .entry)))))
-        × ((r .ptr .0 ≡ line .entry .ptr .0) × (r .ptr .1 ≡ line .entry .ptr .1 + (a + quoteBytes (take (e - a) (drop a (now (line .entry))))))) ⌝ }
+        × (r .ptr .0 ≡ line .entry .ptr .0)
+        × (r .ptr .1 ≡ line .entry .ptr .1 + (a + quoteBytes (take (e - a) (drop a (now (line .entry)))))) ⌝ }
 {
     if is_quoted(&line[a..e]) {
         return &line[a + 1..e - 1];
@@ -81,7 +82,8 @@ fn cut(line: &[u8], a: usize, e: usize) -> &[u8]
 // and its address. A field that the line does not have is the empty part at the line's end.
 pub fn field(line: &[u8], k: usize) -> &[u8]
     ensures { λ r. ⌜ (now r ≡ fieldOf (now (line .entry)) k)
-        × ((r .ptr .0 ≡ line .entry .ptr .0) × (r .ptr .1 ≡ line .entry .ptr .1 + fieldStart (now (line .entry)) k)) ⌝ }
+        × (r .ptr .0 ≡ line .entry .ptr .0)
+        × (r .ptr .1 ≡ line .entry .ptr .1 + fieldStart (now (line .entry)) k) ⌝ }
 {
     let a = start_of(line, k);
     let e = end_of(line, a);

@@ -36,7 +36,8 @@ part-result-end c = search needs
 returns : tie.Need-returns
 returns c =
     let q = sym (c .before .before .is-quoted .ensures) ∙ c .before .if1 .taken in
-    (sym (unquoted-yes _ q ∙ inner-part _ _ _ (cut-room _ _ _ (c .before .before .before .before .before .pre .1) q) (c .before .before .before .before .before .pre .1)), (refl, rw q (omega arith)))
+    let room = c .before .before .before .before .before .pre .1 in
+    (sym (unquoted-yes _ q ∙ inner-part _ _ _ (cut-room _ _ _ room q) room), refl, rw q (omega arith))
 
 sub-result-3 : tie.Need-sub-result-3
 sub-result-3 c = search needs
@@ -50,7 +51,7 @@ part-result-end-2 c = search needs
 returns-2 : tie.Need-returns-2
 returns-2 c =
     let q = sym (c .before .before .is-quoted .ensures) ∙ c .before .if1 .left in
-    (sym (unquoted-no _ q), (refl, rw q (omega arith)))
+    (sym (unquoted-no _ q), refl, rw q (omega arith))
 
 pub cut-spec : {M : Type 1} → statement M
 cut-spec =

@@ -18,10 +18,10 @@ first-comma-requires : tie.Need-first-comma-requires
 first-comma-requires c κs = search needs
 
 add-result : tie.Need-add-result
-add-result c = omega (arith, c .first-comma .ensures .1, length-rest (c .before .before .before .args .line .now) (c .before .before .before .args .a))
+add-result c = omega (arith, length-rest (c .before .before .before .args .line .now) (c .before .before .before .args .a))
 
 returns : tie.Need-returns
-returns c = (omega (arith, rw take-rest at (c .first-comma .ensures .0)), omega (arith, c .first-comma .ensures .1, c .before .before .before .pre, length-rest (c .before .before .before .args .line .now) (c .before .before .before .args .a)))
+returns c = (omega (arith, rw take-rest at (c .first-comma .ensures .0)), omega (arith, length-rest (c .before .before .before .args .line .now) (c .before .before .before .args .a)))
 
 pub end-of-spec : {M : Type 1} → statement M
 end-of-spec =

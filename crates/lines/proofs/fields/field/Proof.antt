@@ -13,16 +13,13 @@ end-of-requires : tie.Need-end-of-requires
 end-of-requires c κs = search needs
 
 cut-requires : tie.Need-cut-requires
-cut-requires c κs = (omega (arith, c .end-of .ensures .0), c .end-of .ensures .1)
+cut-requires c κs = (omega arith, c .end-of .ensures .1)
 
 returns : tie.Need-returns
 returns c = (
   c .cut .ensures .0 ∙ marked-field _ _ _ _ (c .before .before .start-of .ensures .0) (c .before .end-of .ensures .0),
-  (
-    c .cut .ensures .1 .0,
-    c .cut .ensures .1 .1
-        ∙ marked-start _ _ _ _ (c .before .before .start-of .ensures .0) (c .before .end-of .ensures .0) (c .before .before .start-of .ensures .1) _,
-  ),
+  c .cut .ensures .1,
+  c .cut .ensures .2 ∙ marked-start _ _ _ _ (c .before .before .start-of .ensures .0) (c .before .end-of .ensures .0) (c .before .before .start-of .ensures .1) _,
 )
 
 pub field-spec : {M : Type 1} → statement M

@@ -32,7 +32,7 @@ past-comma-requires : tie.Need-past-comma-requires Inv-loop μ-loop
 past-comma-requires c κs = search needs
 
 add-i : tie.Need-add-i Inv-loop μ-loop
-add-i c = omega (arith, c .past-comma .ensures .1, length-rest (c .before .before .before .before .before .args .line .now) (c .before .before .before .loop .i))
+add-i c = omega (arith, length-rest (c .before .before .before .before .before .args .line .now) (c .before .before .before .loop .i))
 
 sub-left : tie.Need-sub-left Inv-loop μ-loop
 sub-left c = search needs
@@ -45,7 +45,7 @@ loop-again c =
     let line = c .before .before .before .before .before .args .line .now in
     let i = c .before .before .before .loop .i in
     let left = c .before .before .before .loop .left in (
-      omega (arith, c .past-comma .ensures .1, length-rest line i),
+      omega (arith, length-rest line i),
       c .before .before .before .loop .inv .1
           ∙ from-step _ _ (omega (arith, c .before .before .loop-test .taken))
           ∙ ap (λ z. fromField z (left - 1)) (sym (rw take-rest at (c .past-comma .ensures .0)) ∙ drop-drop (c .past-comma .result) i line),

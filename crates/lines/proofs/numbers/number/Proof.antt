@@ -10,7 +10,7 @@ use Rattle.lines.proofs.numbers.number.Statement.{statement}
 use Rattle.lines.proofs.numbers.number.Tie as tie
 
 abbrev Inv-loop : tie.InvT-loop
-Inv-loop s sum₀ i₀ sum i = (i ≤ length s) × ((sum < 2 ^ 32) × (readFrom 0 s ≡ readFrom sum (drop i s)))
+Inv-loop s sum₀ i₀ sum i = (i ≤ length s) × (sum < 2 ^ 32) × (readFrom 0 s ≡ readFrom sum (drop i s))
 
 abbrev μ-loop : tie.MeasureT-loop
 μ-loop s sum₀ i₀ sum i = length s - i
@@ -19,16 +19,16 @@ returns : tie.Need-returns Inv-loop μ-loop
 returns c = sym (num-none _ (c .if1 .taken))
 
 loop-holds : tie.Need-loop-holds Inv-loop μ-loop
-loop-holds c = (search needs, (search needs, refl))
+loop-holds c = (search needs, search needs, refl)
 
 shared-slice-read-x : tie.Need-shared-slice-read-x Inv-loop μ-loop
 shared-slice-read-x c = search needs
 
 returns-2 : tie.Need-returns-2 Inv-loop μ-loop
-returns-2 c = sym (num-some _ (c .before .before .before .before .if1 .left) ∙ c .before .before .before .loop .inv .1 .1 ∙ read-low _ _ _ (c .before .before .loop-test .taken) (c .if2 .taken))
+returns-2 c = sym (num-some _ (c .before .before .before .before .if1 .left) ∙ c .before .before .before .loop .inv .2 ∙ read-low _ _ _ (c .before .before .loop-test .taken) (c .if2 .taken))
 
 returns-3 : tie.Need-returns-3 Inv-loop μ-loop
-returns-3 c = sym (num-some _ (c .before .before .before .before .before .if1 .left) ∙ c .before .before .before .before .loop .inv .1 .1 ∙ read-high _ _ _ (c .before .before .before .loop-test .taken) (omega (arith, c .if3 .taken)))
+returns-3 c = sym (num-some _ (c .before .before .before .before .before .if1 .left) ∙ c .before .before .before .before .loop .inv .2 ∙ read-high _ _ _ (c .before .before .before .loop-test .taken) (omega (arith, c .if3 .taken)))
 
 mul-sum : tie.Need-mul-sum Inv-loop μ-loop
 mul-sum c = search needs
@@ -43,7 +43,7 @@ returns-4 : tie.Need-returns-4 Inv-loop μ-loop
 returns-4 c =
     sym
     (num-some _ (c .before .before .before .before .before .before .before .if1 .left)
-    ∙ c .before .before .before .before .before .before .loop .inv .1 .1
+    ∙ c .before .before .before .before .before .before .loop .inv .2
     ∙ read-more _ _ _ (c .before .before .before .before .before .loop-test .taken) (c .before .before .before .if2 .left) (c .before .before .if3 .left) _ (c .before .wide .ensures)
     ∙ read-big _ _ (omega (arith, c .if4 .taken)))
 
@@ -56,18 +56,15 @@ loop-less c = search needs
 loop-again : tie.Need-loop-again Inv-loop μ-loop
 loop-again c = (
   search needs,
-  (
-    c .if4 .left,
-    c .before .before .before .before .before .before .loop .inv .1 .1
-        ∙ read-more _ _ _ (c .before .before .before .before .before .loop-test .taken) (c .before .before .before .if2 .left) (c .before .before .if3 .left) _ (c .before .wide .ensures),
-  ),
+  omega (arith, c .if4 .left),
+  c .before .before .before .before .before .before .loop .inv .2 ∙ read-more _ _ _ (c .before .before .before .before .before .loop-test .taken) (c .before .before .before .if2 .left) (c .before .before .if3 .left) _ (c .before .wide .ensures),
 )
 
 cast-t13 : tie.Need-cast-t13 Inv-loop μ-loop
 cast-t13 c = search needs
 
 returns-5 : tie.Need-returns-5 Inv-loop μ-loop
-returns-5 c = sym (num-some _ (c .before .before .if1 .left) ∙ c .before .loop .inv .1 .1 ∙ read-end _ _ _ (c .loop-test .left) (c .before .loop .inv .1 .0))
+returns-5 c = sym (num-some _ (c .before .before .if1 .left) ∙ c .before .loop .inv .2 ∙ read-end _ _ _ (c .loop-test .left) (c .before .loop .inv .1))
 
 pub number-spec : {M : Type 1} → statement M
 number-spec =

@@ -11,13 +11,13 @@ use Rattle.lines.proofs.reading.commas.Statement.{statement}
 use Rattle.lines.proofs.reading.commas.Tie as tie
 
 abbrev Inv-loop : tie.InvT-loop
-Inv-loop s n₀ i₀ n i = (i ≤ length s) × ((n ≤ i) × (n + countOf commaByte (drop i s) ≡ countOf commaByte s))
+Inv-loop s n₀ i₀ n i = (i ≤ length s) × (n ≤ i) × (n + countOf commaByte (drop i s) ≡ countOf commaByte s)
 
 abbrev μ-loop : tie.MeasureT-loop
 μ-loop s n₀ i₀ n i = length s - i
 
 loop-holds : tie.Need-loop-holds Inv-loop μ-loop
-loop-holds c = (search needs, (search needs, omega arith))
+loop-holds c = (search needs, search needs, omega arith)
 
 shared-slice-read-one-if-comma : tie.Need-shared-slice-read-one-if-comma Inv-loop μ-loop
 shared-slice-read-one-if-comma c = search needs
@@ -26,7 +26,7 @@ one-if-comma-requires : tie.Need-one-if-comma-requires Inv-loop μ-loop
 one-if-comma-requires c κs = search needs
 
 add-n : tie.Need-add-n Inv-loop μ-loop
-add-n c = omega (arith, one-at-most (eqb (getD (c .before .before .before .before .before .args .s .now) (c .before .before .before .loop .i) 0) commaByte), c .one-if-comma .ensures)
+add-n c = omega (arith, one-at-most (eqb (getD (c .before .before .before .before .before .args .s .now) (c .before .before .before .loop .i) 0) commaByte))
 
 add-i : tie.Need-add-i Inv-loop μ-loop
 add-i c = search needs
@@ -35,13 +35,7 @@ loop-less : tie.Need-loop-less Inv-loop μ-loop
 loop-less c = search needs
 
 loop-again : tie.Need-loop-again Inv-loop μ-loop
-loop-again c = (
-  search needs,
-  (
-    omega (arith, one-at-most (eqb (getD (c .before .before .before .before .before .args .s .now) (c .before .before .before .loop .i) 0) commaByte), c .one-if-comma .ensures),
-    omega (arith, c .one-if-comma .ensures, count-step (c .before .before .before .before .before .args .s .now) commaByte (c .before .before .before .loop .i) (c .before .before .loop-test .taken)),
-  ),
-)
+loop-again c = (search needs, omega (arith, one-at-most (eqb (getD (c .before .before .before .before .before .args .s .now) (c .before .before .before .loop .i) 0) commaByte)), omega (arith, count-step (c .before .before .before .before .before .args .s .now) commaByte (c .before .before .before .loop .i) (c .before .before .loop-test .taken)))
 
 returns : tie.Need-returns Inv-loop μ-loop
 returns c = omega (arith, count-end (c .before .before .before .args .s .now) commaByte (c .before .loop .i) (c .loop-test .left))

@@ -44,7 +44,7 @@ put-number-put-byte-requires : (t : ℕ) → put-number-lts.Need-put-byte-requir
   put-number-below t,
   put-number.Post,
 ) (put-number-at t) put-number.Post
-put-number-put-byte-requires t c κs = omega (arith, length-one _ (c .before .before .if1 .taken))
+put-number-put-byte-requires t c κs = omega (arith, length-one (c .before .before .before .before .args .n) (omega (arith, c .before .before .if1 .taken)))
 
 put-number-same-length : (t : ℕ) → put-number-lts.Need-same-length (
   last-digit-reads.Asked,
@@ -65,8 +65,8 @@ put-number-returns : (t : ℕ) → put-number-lts.Need-returns (
   put-number.Post,
 ) (put-number-at t) put-number.Post
 put-number-returns t c = (
-  omega (arith, length-one _ (c .before .before .before .before .before .if1 .taken)),
-  c .before .before .put-byte .ensures .1 ∙ put-one _ _ _ _ (c .before .before .before .before .before .if1 .taken) (c .before .before .before .last-digit .ensures),
+  omega (arith, length-one (c .before .before .before .before .before .before .before .args .n) (omega (arith, c .before .before .before .before .before .if1 .taken))),
+  c .before .before .put-byte .ensures .1 ∙ put-one _ _ _ _ (omega (arith, c .before .before .before .before .before .if1 .taken)) (c .before .before .before .last-digit .ensures),
 )
 
 put-number-put-number-requires : (t : ℕ) → put-number-lts.Need-put-number-requires (
