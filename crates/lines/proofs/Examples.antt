@@ -1,9 +1,7 @@
 -- Lines read by way of example, by computation, so that the definitions themselves are tried.
-use Prim.Native.Nat.{ℕ}
 use Prim.Native.String.{String}
 use mathlib.Core.List.{List, [], _∷_, map}
 use mathlib.Core.Path.{_≡_, refl}
-use lib.ListN.{length}
 use Rattle.lines.specs.declared.Line.{Line}
 use Rattle.lines.specs.declared.Line.the-variants.{TooLong, NotThree, Numbers}
 use Rattle.lines.specs.Texts.{bytes}

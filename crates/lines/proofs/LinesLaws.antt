@@ -9,11 +9,10 @@ use native.Mathlib.Omega.{arith}
 use lib.Dec.{leb, ltb, eqb}
 use lib.ListN.{length, getD, take, drop, drop-of-length-le, length-drop}
 use lib.Seq.{drop-cons, take-all, take-nil, take-take, drop-drop, length-take-le}
-use borrow.Author.Tests.{eq-eqb, ne-eqb, le-leb, lt-leb, lt-ltb, le-ltb, leb-true, leb-false}
+use borrow.Author.Tests.{eq-eqb, ne-eqb, le-leb, lt-leb, lt-ltb, le-ltb, leb-true}
 use Rattle.lines.specs.declared.Num.{Num}
 use Rattle.lines.specs.declared.Num.the-variants.{Bad, Is}
-use Rattle.lines.specs.declared.Line.{Line}
-use Rattle.lines.specs.declared.Line.the-variants.{TooLong, NotThree, Numbers}
+use Rattle.lines.specs.declared.Line.the-variants.{TooLong, NotThree}
 use Rattle.lines.specs.Lines.{commaByte, quoteByte, zeroByte, nineByte, maxLine, indexOf, countOf, afterComma, fromField, rawField, quoted, unquoted, quoteBytes, fieldOf, fieldStart, allDigits, valueFrom, numOf, threeOf, lineOf}
 
 -- ---- the first comma

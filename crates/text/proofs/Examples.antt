@@ -1,6 +1,6 @@
 -- Numbers and lines written by way of example, by computation, so that the definitions themselves are tried.
 use Prim.Native.Nat.{ℕ}
-use mathlib.Core.List.{List, [], _∷_, map}
+use mathlib.Core.List.{[], _∷_, map}
 use mathlib.Core.Path.{_≡_, refl}
 use lib.ListN.{length}
 use Rattle.lines.specs.Texts.{bytes}

@@ -3,7 +3,7 @@
 use mathlib.Core.Path.{_≡_, refl, sym, ap, _∙_}
 use mathlib.Core.Bool.{Bool, true, false}
 use mathlib.Core.List.{List, [], _∷_, _++_, append-assoc}
-use Prim.Native.Nat.{ℕ, zero, suc, _+_, _*_, _/_, _%_, _^_, _≤_, _<_}
+use Prim.Native.Nat.{ℕ, zero, suc, _+_, _*_, _/_, _^_, _≤_, _<_}
 use native.Mathlib.Omega.{arith}
 use lib.Dec.{ltb}
 use lib.ListN.{length, set, length-append}
@@ -12,7 +12,7 @@ use borrow.Author.Tests.{lt-ltb, le-ltb, ltb-true, ltb-false}
 use Rattle.lines.specs.Lines.{commaByte}
 use Rattle.text.specs.declared.Row.{Row}
 use Rattle.text.proofs.WritesLaws.{sets-snoc, sets-sets}
-use Rattle.text.specs.Text.{lfByte, numberBytes, wordBytes, lineBytes, digitOf, digits, decimal, fieldText, joined, rowFields, lineText}
+use Rattle.text.specs.Text.{lfByte, numberBytes, wordBytes, lineBytes, digitOf, digits, decimal, fieldText, joined, lineText}
 
 -- ---- the digits of a number
 
@@ -43,6 +43,7 @@ stable (suc k) n h = go (stable k (n / 10)) (ltb n 10) refl
         ∙ ap (λ (l : List ℕ). l ++ digitOf n ∷ []) (ih (omega arith))
         ∙ sym (digits-more (suc (suc k)) n (ltb-false n 10 e))
 
+-- a number below the bound has few digits, however many are asked for
 few : (k j n : ℕ) → n < bound k → length (digits j n) ≤ suc k
 unfolding digits
 few k zero n h = omega arith
@@ -53,6 +54,7 @@ few (suc k) (suc j) n h = go (few k j (n / 10)) (ltb n 10) refl
     go ih true e = rw (digits-one j n (ltb-true n 10 e)) (omega arith)
     go ih false e = omega (arith, ap length (digits-more j n (ltb-false n 10 e)) ∙ length-snoc (digits j (n / 10)) (digitOf n), ih (omega arith))
 
+-- and no number has more than are asked for
 at-most : (k n : ℕ) → length (digits k n) ≤ k
 unfolding digits
 at-most zero n = omega arith
