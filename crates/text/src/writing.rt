@@ -48,7 +48,7 @@ pub fn put_field(out: &mut [u8], at: usize, n: u64, end: u8) -> usize
     put_byte(out, next, end)
 }
 
-// The same of a number of 32 bits, for which there is room at any rate.
+// The same of a number of 32 bits, where there is room for the longest.
 fn put_word(out: &mut [u8], at: usize, n: u32, end: u8) -> usize
     requires { ⌜ at + wordBytes ≤ length (now out) ⌝ }
     ensures { λ r. ⌜ (r ≡ at + length (fieldText n end)) × (now (out .exit) ≡ sets (now (out .entry)) at (fieldText n end)) × (r ≤ at + wordBytes) ⌝ }
@@ -56,7 +56,7 @@ fn put_word(out: &mut [u8], at: usize, n: u32, end: u8) -> usize
     put_field(out, at, wide(n), end)
 }
 
-// The row as a line, with its LF.
+// The row as a line, with its LF, where there is room for LINE_BYTES.
 pub fn put_line(out: &mut [u8], at: usize, row: Row) -> usize
     requires { ⌜ at + lineBytes ≤ length (now out) ⌝ }
     ensures { λ r. ⌜ (r ≤ at + lineBytes) × (r ≡ at + length (lineText row)) × (now (out .exit) ≡ sets (now (out .entry)) at (lineText row)) ⌝ }
