@@ -1,13 +1,21 @@
-//! Runs the proved library and the model beside each other, on the same steps, and stops at the first difference.
+//! Runs the proved library and the model beside each other, on the same steps, then the program that runs schedules and the
+//! model, on the same schedules, and stops at the first difference.
 //!
-//!     compare [--steps N] [--damaged N] [--seed S] [--fault F]
+//!     compare [--steps N] [--damaged N] [--lines N] [--rack PROGRAM] [--seed S] [--fault F]
+//!     compare --as-model [--fault F] <SCHEDULE
+//!
+//! The second writes what the model answers to the schedule.
 mod chance;
+mod drawing;
 mod model;
+mod schedule;
+mod schedules;
 mod words;
 
 use chance::Chance;
 use hatukeno::{Board, Refusal, BOARD_WORDS};
-use model::{Fault, Model, Outcome, Step, LAST_FAULT};
+use model::{Fault, Model, Outcome, Step};
+use std::path::PathBuf;
 use std::process::exit;
 use words::Words;
 
@@ -271,29 +279,65 @@ fn extras(fault: Fault) {
     expect(&mut board, &mut model, Step::Deliver(0, 2), Err(8));
 }
 
-fn main() {
-    let (mut steps, mut boards, mut seed, mut fault) = (2_000_000, 500_000, 1, 0);
+struct Options {
+    steps: u64,
+    damaged: u64,
+    lines: u64,
+    seed: u64,
+    fault: Fault,
+    rack: PathBuf,
+    as_model: bool,
+}
+
+fn options() -> Options {
+    let mut options = Options {
+        steps: 2_000_000,
+        damaged: 500_000,
+        lines: 200_000,
+        seed: 1,
+        fault: 0,
+        rack: PathBuf::from("target/bin/rack"),
+        as_model: false,
+    };
     let mut words = std::env::args().skip(1);
     while let Some(word) = words.next() {
-        let Some(number) = words.next().and_then(|x| x.parse::<u64>().ok()) else {
+        if word == "--as-model" {
+            options.as_model = true;
+            continue;
+        }
+        let Some(next) = words.next() else {
+            eprintln!("compare: {word} needs a word after it");
+            exit(2);
+        };
+        if word == "--rack" {
+            options.rack = PathBuf::from(next);
+            continue;
+        }
+        let Ok(number) = next.parse::<u64>() else {
             eprintln!("compare: {word} needs a number after it");
             exit(2);
         };
         match word.as_str() {
-            "--steps" => steps = number,
-            "--damaged" => boards = number,
-            "--seed" => seed = number,
-            "--fault" if number <= u64::from(LAST_FAULT) => fault = number as Fault,
+            "--steps" => options.steps = number,
+            "--damaged" => options.damaged = number,
+            "--lines" => options.lines = number,
+            "--seed" => options.seed = number,
+            "--fault" if number <= u64::from(schedule::LAST_FAULT) => options.fault = number as Fault,
             "--fault" => {
-                eprintln!("compare: there is no fault {number}; the last is {LAST_FAULT}");
+                eprintln!("compare: there is no fault {number}; the last is {}", schedule::LAST_FAULT);
                 exit(2);
             }
             _ => {
-                eprintln!("compare: {word} is none of --steps, --damaged, --seed, --fault");
+                eprintln!("compare: {word} is none of --steps, --damaged, --lines, --seed, --fault, --rack, --as-model");
                 exit(2);
             }
         }
     }
+    options
+}
+
+/// The library beside the model: so many steps of runs, and so many damaged boards.
+fn library(steps: u64, boards: u64, seed: u64, fault: Fault) {
     for (n, m) in [(0, 0), (0, 9), (5, 8), (6, 1), (5, 9), (5, 0), (u32::MAX, 1), (1, u32::MAX)] {
         fresh(n, m);
     }
@@ -329,4 +373,32 @@ fn main() {
         "and 6 steps on each of {} damaged boards, {} of them by one word, and of {} that were well formed all the same",
         seen.ill, seen.by_one, seen.well
     );
+}
+
+fn main() {
+    let options = options();
+    let Options { seed, fault, .. } = options;
+    if options.as_model {
+        if let Err(error) = schedules::answer(fault) {
+            eprintln!("compare: {error}");
+            exit(2);
+        }
+        return;
+    }
+    // A fault of the board is to be found by its steps, one of the rules for lines by schedules.
+    let lines = if (1..=model::LAST_FAULT).contains(&fault) {
+        0
+    } else {
+        options.lines
+    };
+    if lines > 0 && !options.rack.is_file() {
+        eprintln!("compare: there is no program {}; rt check rack writes it", options.rack.display());
+        exit(2);
+    }
+    if fault <= model::LAST_FAULT {
+        library(options.steps, options.damaged, seed, fault);
+    }
+    if lines > 0 {
+        schedules::compare(&options.rack, lines, seed, fault);
+    }
 }
