@@ -1,11 +1,20 @@
-//! Times the proved library beside plain Rust, which asks question 1 at every step or never, on the same steps.
+//! Times the proved library beside plain Rust, which asks question 1 at every step or never, on the same steps; then the program
+//! that runs schedules beside plain Rust and the model, on the same schedule.
 //!
-//!     bench [--seed S] [--rounds N]
+//!     bench [--seed S] [--rounds N] [--lines N] [--rack PROGRAM]
+//!     bench --as-plain <SCHEDULE
+//!     bench --as-unasked <SCHEDULE
+//!
+//! With --rounds 0 no steps are timed, with --lines 0 no schedule. The other two write plain Rust's answers to the schedule.
+mod lines;
 mod plain;
+mod plain_lines;
 
 use hatukeno::{Board, Outcome, Refusal, BOARD_WORDS};
+use lines::Programs;
 use std::hint::black_box;
 use std::mem::size_of;
+use std::path::PathBuf;
 use std::process::exit;
 use std::time::Instant;
 
@@ -341,29 +350,52 @@ fn medians<const N: usize>(rounds: usize, sides: [&dyn Fn() -> f64; N]) -> [f64;
     })
 }
 
-fn options() -> (u64, usize) {
-    let (mut seed, mut rounds) = (1, 1000);
+struct Options {
+    seed: u64,
+    rounds: usize,
+    lines: usize,
+    rack: PathBuf,
+}
+
+fn options() -> Options {
+    let mut options = Options {
+        seed: 1,
+        rounds: 1000,
+        lines: 1_000_000,
+        rack: PathBuf::from("target/bin/rack"),
+    };
     let mut words = std::env::args().skip(1);
     while let Some(word) = words.next() {
-        if word != "--seed" && word != "--rounds" {
-            eprintln!("bench: {word} is none of --seed, --rounds");
+        if !["--seed", "--rounds", "--lines", "--rack"].contains(&word.as_str()) {
+            eprintln!("bench: {word} is none of --seed, --rounds, --lines, --rack");
             exit(2);
         }
-        let number = words.next().and_then(|x| x.parse::<u64>().ok());
-        match (word.as_str(), number) {
-            ("--seed", Some(s)) => seed = s,
-            ("--rounds", Some(n)) if (1..=1_000_000).contains(&n) => rounds = n as usize,
-            ("--seed", None) => {
+        let next = words.next();
+        let number = next.as_ref().and_then(|x| x.parse::<u64>().ok());
+        match (word.as_str(), next, number) {
+            ("--rack", Some(path), _) => options.rack = PathBuf::from(path),
+            ("--seed", _, Some(s)) => options.seed = s,
+            ("--rounds", _, Some(n @ 0..=1_000_000)) => options.rounds = n as usize,
+            ("--lines", _, Some(n @ 0..=100_000_000)) => options.lines = n as usize,
+            ("--rack", ..) => {
+                eprintln!("bench: --rack needs a program after it");
+                exit(2);
+            }
+            ("--seed", ..) => {
                 eprintln!("bench: --seed needs a number after it");
                 exit(2);
             }
+            ("--rounds", ..) => {
+                eprintln!("bench: --rounds needs a number from 0 to 1000000 after it");
+                exit(2);
+            }
             _ => {
-                eprintln!("bench: --rounds needs a number from 1 to 1000000 after it");
+                eprintln!("bench: --lines needs a number from 0 to 100000000 after it");
                 exit(2);
             }
         }
     }
-    (seed, rounds)
+    options
 }
 
 fn print_row(name: &str, [library, plain, unasked]: [f64; 3]) {
@@ -371,9 +403,8 @@ fn print_row(name: &str, [library, plain, unasked]: [f64; 3]) {
     println!("| {name} | {library:.0} | {plain:.0} | {unasked:.1} | {a:.2} | {b:.1} |");
 }
 
-fn main() {
-    let (seed, rounds) = options();
-    let start = Instant::now();
+/// Times single steps and whole runs through the library.
+fn time_steps(seed: u64, rounds: usize) {
     let mut chance = Chance(seed);
     let mut rows = ROWS.map(|(name, is_of)| Row {
         name,
@@ -429,5 +460,27 @@ fn main() {
         "{} runs of {run_steps} steps, {BOARDS} boards for each kind of step, medians of {rounds} rounds",
         runs.len()
     );
+}
+
+fn stop(error: std::io::Error) -> ! {
+    eprintln!("bench: {error}");
+    exit(1)
+}
+
+fn main() {
+    match std::env::args().nth(1).as_deref() {
+        Some(lines::AS_PLAIN) => return plain_lines::run::<true>().unwrap_or_else(|error| stop(error)),
+        Some(lines::AS_UNASKED) => return plain_lines::run::<false>().unwrap_or_else(|error| stop(error)),
+        _ => {}
+    }
+    let options = options();
+    let start = Instant::now();
+    let programs = (options.lines > 0).then(|| Programs::new(&options.rack));
+    if options.rounds > 0 {
+        time_steps(options.seed, options.rounds);
+    }
+    if let Some(programs) = programs {
+        programs.time(options.seed, options.lines).unwrap_or_else(|error| stop(error));
+    }
     println!("took {:.0} seconds", start.elapsed().as_secs_f64());
 }
