@@ -14,7 +14,7 @@ use Rattle.lines.specs.declared.Line.the-variants.{TooLong}
 use Rattle.lines.specs.Lines.{lineOf}
 use Rattle.split.specs.Split.{lf, cr, chop, linesAfter, heldBytes}
 use Rattle.schedule.specs.Schedule.{Effect, effectOf, nextNumber, outputOf, scheduleText}
-use Rattle.schedule.specs.Chunks.{Session, start, afterByte, textAt, afterBytes, textOf, textAtEnd, lastText, printed, joined}
+use Rattle.schedule.specs.Chunks.{Session, start, withByte, lineEffect, afterLine, afterByte, textAt, afterBytes, textOf, textAtEnd, lastText, printed, joined}
 
 -- ---- a line of which only the first 66 bytes are held is refused as the whole line is
 
@@ -71,7 +71,7 @@ Good input = (cur : List ℕ) (b : Board) (n : ℕ) → textOf (held cur b n) in
 
 -- a byte that ends no line
 module _ (s : Session) (x : ℕ) (e : eqb x lf ≡ false) where
-  pub byte-after : afterByte s x ≡ record { held = take heldBytes (s .held ++ (x ∷ [])); board = s .board; number = s .number }
+  pub byte-after : afterByte s x ≡ withByte s x
   unfolding afterByte
   byte-after = rw e
 
@@ -81,11 +81,11 @@ module _ (s : Session) (x : ℕ) (e : eqb x lf ≡ false) where
 
 -- an LF
 module _ (s : Session) (x : ℕ) (e : eqb x lf ≡ true) where
-  pub lf-after : afterByte s x ≡ record { held = []; board = effectOf (s .board) (s .number) (chop (s .held)) .board; number = nextNumber (s .number) }
+  pub lf-after : afterByte s x ≡ afterLine s
   unfolding afterByte
   lf-after = rw e
 
-  pub lf-text : textAt s x ≡ effectOf (s .board) (s .number) (chop (s .held)) .text
+  pub lf-text : textAt s x ≡ lineEffect s .text
   unfolding textAt
   lf-text = rw e
 

@@ -10,7 +10,7 @@ use Rattle.board.specs.Boards.{freshBoard}
 use Rattle.board.specs.Steps.{smallest}
 use Rattle.split.specs.Split.{lf, chop, heldBytes}
 use Rattle.schedule.specs.declared.Rack.{Rack}
-use Rattle.schedule.specs.Schedule.{effectOf, firstNumber, nextNumber}
+use Rattle.schedule.specs.Schedule.{Effect, effectOf, firstNumber, nextNumber}
 
 -- the line so far, as much of it as is held; the board, and the number of the line
 pub record Session : Type 0 where
@@ -21,17 +21,25 @@ pub record Session : Type 0 where
 abbrev pub start : Session
 start = record { held = []; board = freshBoard smallest; number = firstNumber }
 
--- after one byte more: an LF ends the line, any other byte is held, if there is room
+-- a byte that ends no line is held, if there is room
+abbrev pub withByte : Session → ℕ → Session
+withByte s x = record { held = take heldBytes (s .held ++ (x ∷ [])); board = s .board; number = s .number }
+
+-- what the line comes to that an LF ends
+abbrev pub lineEffect : Session → Effect
+lineEffect s = effectOf (s .board) (s .number) (chop (s .held))
+
+-- and where the run goes on
+abbrev pub afterLine : Session → Session
+afterLine s = record { held = []; board = lineEffect s .board; number = nextNumber (s .number) }
+
+-- after one byte more
 unfoldable pub afterByte : Session → ℕ → Session
-afterByte s x =
-    cond
-    (eqb x lf)
-    (record { held = []; board = effectOf (s .board) (s .number) (chop (s .held)) .board; number = nextNumber (s .number) })
-    (record { held = take heldBytes (s .held ++ (x ∷ [])); board = s .board; number = s .number })
+afterByte s x = cond (eqb x lf) (afterLine s) (withByte s x)
 
 -- what is written at a byte: the output line, if it is an LF
 unfoldable pub textAt : Session → ℕ → List ℕ
-textAt s x = cond (eqb x lf) (effectOf (s .board) (s .number) (chop (s .held)) .text) []
+textAt s x = cond (eqb x lf) (lineEffect s .text) []
 
 unfoldable pub afterBytes : Session → List ℕ → Session
 afterBytes s [] = s

@@ -14,6 +14,7 @@ use bytes::scan::find;
 use split::HELD_BYTES;
 use split::chopped;
 use split::hold;
+use text::LINE_BYTES;
 
 // Takes the next line of the chunk, or what there is of it. The caller has seen that there is a byte left, that the line held has
 // its 66 bytes, and that an output line has room.
@@ -116,7 +117,7 @@ pub fn start() -> Rack
 // The bytes of a chunk, and of an output that has room for a line at every one of them.
 pub const CHUNK_BYTES: usize = 4096;
 
-pub const OUT_BYTES: usize = 311296;
+pub const OUT_BYTES: usize = CHUNK_BYTES * LINE_BYTES;
 
 // Puts the first n bytes of the chunk to the run, and what they come to at the start of the output.
 pub fn run_chunk(
