@@ -1,4 +1,5 @@
--- Laws of a line's effect, and the theorem on whole inputs.
+-- Laws of a line's effect, the theorem on whole inputs, laws of one chunk, and examples.
 pub mod ScheduleLaws
 pub mod Whole
 pub mod ChunksLaws
+pub mod Examples

@@ -1,0 +1,49 @@
+-- Schedules by way of example, by computation, so that the definitions themselves are tried.
+use Prim.Native.String.{String}
+use mathlib.Core.List.{List, [], _∷_, map}
+use mathlib.Core.Path.{_≡_, refl}
+use Rattle.lines.specs.Texts.{bytes}
+use Rattle.lines.specs.Lines.{indexOf, countOf, fromField, quoted, unquoted, fieldOf, allDigits, valueFrom, numOf, lineOf}
+use Rattle.text.specs.Text.{digits, decimal, joined, lineText}
+use Rattle.split.specs.Split.{chop, linesAfter}
+use Rattle.parts.specs.Finite.{every, count}
+use Rattle.parts.specs.Tags.{greater}
+use Rattle.parts.specs.AnsweredSet.{member, insert, size, onlyBelow}
+use Rattle.parts.specs.Sizes.{majority, askSize, tellSize}
+use Rattle.parts.specs.Parts.{nodeIn, consoleIn, frameIn, place, setFrame, setRow}
+use Rattle.checks.specs.Clauses.{nodesAllowed, consolesAllowed, setupOk, isZero, tagOk, nodeOk, nodesOk, restOk, wantedOk, waitOk, stateOk, consoleOk, consolesOk, frameOk, cellOk, rowOk, cellsOk}
+use Rattle.changes.specs.Changes.{withUp, taken, rests, asks, awaits, hears, nextTag, tells, acked}
+use Rattle.board.specs.Boards.{nodeAt, consoleAt, frameAt, withNode, withConsole, withFrame, withRow, freshBoard}
+use Rattle.board.specs.WellFormed.{wellFormed}
+use Rattle.board.specs.Answers.{guarded}
+use Rattle.board.specs.Steps.{fresh, begun, begin, nodeDown, consoleDown}
+use Rattle.board.specs.Deliver.{toNode, onAsk, onPut, discards, heard, turned, replied, onReply, acknowledged, onAck, onFrame, deliver}
+use Rattle.verbs.specs.Verbs.{stepOf}
+use Rattle.schedule.specs.Schedule.{answerOf, boardAfter, rowOf, effectOf, nextNumber, outputOf, scheduleText}
+
+pub record Example : Type 0 where
+  pub input : String
+  pub must : String
+
+infix 20 _prints_
+abbrev pub _prints_ : String → String → Example
+i prints o = record { input = i; must = o }
+
+unfoldable pub examples : List Example
+examples =
+    -- 'input 0,1,1 and then 3,0,0 prints 1,0,1,0,0,0 and 2,8,0,0,0,0'
+    ("0,1,1\n3,0,0\n" prints "1,0,1,0,0,0\n2,8,0,0,0,0\n")
+    -- a write by one node, with the end of the input for the last LF, and a verb in quotes
+    ∷ ("\"2\",0,7\n3,0,0\n3,0,0\r\n3,0,0\n3,0,0" prints "1,0,1,0,0,0\n2,0,2,0,0,0\n3,0,4,0,0,0\n4,0,2,0,0,0\n5,0,5,1,0,7\n")
+    -- nothing, an empty line, and a CR that no LF follows
+    ∷ ("" prints "")
+    ∷ ("\n" prints "1,11,0,0,0,0\n")
+    ∷ ("0,1,1\r" prints "1,11,0,0,0,0\n")
+    -- a refused fresh leaves the board of two nodes; an unknown verb is refused before question 4, and a line that is not three fields
+    -- before that
+    ∷ ("0,2,1\n0,6,1\n4,1,0\n6,9,9\n6,9\n" prints "1,0,1,0,0,0\n2,2,0,0,0,0\n3,0,1,0,0,0\n4,12,0,0,0,0\n5,11,0,0,0,0\n")
+    ∷ []
+
+pub schedules-printed : map (λ x. scheduleText (bytes (x .input))) examples ≡ map (λ x. bytes (x .must)) examples
+unfolding bytes indexOf countOf fromField quoted unquoted fieldOf allDigits valueFrom numOf lineOf digits decimal joined lineText chop linesAfter every count greater member insert size onlyBelow majority askSize tellSize nodeIn consoleIn frameIn place setFrame setRow nodesAllowed consolesAllowed setupOk isZero tagOk nodeOk nodesOk restOk wantedOk waitOk stateOk consoleOk consolesOk frameOk cellOk rowOk cellsOk withUp taken rests asks awaits hears nextTag tells acked nodeAt consoleAt frameAt withNode withConsole withFrame withRow freshBoard wellFormed guarded fresh begun begin nodeDown consoleDown toNode onAsk onPut discards heard turned replied onReply acknowledged onAck onFrame deliver stepOf answerOf boardAfter rowOf effectOf nextNumber outputOf scheduleText examples
+schedules-printed = refl
