@@ -17,8 +17,8 @@ impl Answer {
         }
     }
 
-    // A step that the question of this number refused, with the board to hand back.
-    pub(crate) fn refused(refusal: u32, board: Board) -> Answer
+    // A step that is refused with this number, with the board to hand back.
+    pub fn refused(refusal: u32, board: Board) -> Answer
         ensures { λ r. ⌜ r ≡ refuse refusal board ⌝ }
     {
         Answer {

@@ -25,6 +25,13 @@ zeroByte = 48
 abbrev pub nineByte : ℕ
 nineByte = 57
 
+-- the ends of lines
+abbrev pub crByte : ℕ
+crByte = 13
+
+abbrev pub lfByte : ℕ
+lfByte = 10
+
 -- Paper 1 'refuses a line over 64 bytes'
 abbrev pub maxLine : ℕ
 maxLine = 64

@@ -1,5 +1,8 @@
 // Reads a schedule from standard input and answers each of its lines on standard output. All that a line comes to is done by the
-// crate schedule; this program only reads and writes. If it cannot, it says why in one line on standard error and stops.
+// crate schedule; this program only reads and writes. If it cannot, it says why in one line on standard error and stops; if
+// nobody reads its output any more, the system ends it.
+ghost use Prim.Native.Nat.{_≤_};
+ghost use lib.ListN.{length};
 use libc::STDIN_FILENO;
 use libc::STDOUT_FILENO;
 use schedule::Rack;
@@ -17,11 +20,10 @@ struct Course {
     is_well: bool,
 }
 
-// Writes the first n bytes of the output.
-fn write_first(out: &[u8], n: usize) -> bool {
-    if n > out.len() {
-        return false;
-    }
+// Writes the first n bytes of the output. The caller has seen that there are so many.
+fn write_first(out: &[u8], n: usize) -> bool
+    requires { ⌜ n ≤ length (now out) ⌝ }
+{
     let is_written = io::write_all(STDOUT_FILENO, &out[0..n]);
     if !is_written {
         os::fail(b"rack: the output cannot be written");

@@ -1,6 +1,6 @@
 -- Laws of one line of a chunk: where the run stands after the bytes up to its LF, and after that.
-use Prim.Native.Nat.{ℕ, zero, suc, _+_, _-_, _≤_, _<_, min}
-use mathlib.Core.Bool.{Bool, true, false, cond}
+use Prim.Native.Nat.{ℕ, suc, _+_, _-_, _≤_, _<_, min}
+use mathlib.Core.Bool.{Bool, true, false}
 use mathlib.Core.List.{List, [], _∷_, _++_, append-assoc, append-nil}
 use mathlib.Core.Path.{_≡_, refl, sym, ap, _∙_}
 use native.Mathlib.Nat.{min-eq-left}
@@ -8,16 +8,17 @@ use native.Mathlib.Omega.{arith}
 use borrow.Author.Tests.{eqb-true, leb-true, leb-false}
 use lib.Dec.{eqb, leb}
 use lib.ListN.{length, take, drop, getD, length-take, length-drop}
-use lib.Seq.{take-all, take-length, take-suc, take-add, drop-drop, append-snoc}
+use lib.Seq.{take-all, take-length, take-suc, take-add}
 use Rattle.board.specs.declared.Board.{Board}
 use Rattle.board.specs.Answers.{guarded}
 use Rattle.board.specs.Boards.{freshBoard}
 use Rattle.board.specs.Steps.{setupOf, smallest, fresh}
 use Rattle.checks.specs.Clauses.{nodesAllowed, consolesAllowed}
 use Rattle.bytes.specs.Bytes.{indexOf, indexAfter, slice}
-use Rattle.split.specs.Split.{lf, chop, heldBytes}
+use Rattle.lines.specs.Lines.{lfByte}
+use Rattle.split.specs.Split.{chop, heldBytes}
 use Rattle.schedule.specs.Schedule.{effectOf, nextNumber}
-use Rattle.schedule.specs.Chunks.{Session, start, afterByte, textAt, afterBytes, textOf, textAtEnd, lastText, startRack, sessionOf, part}
+use Rattle.schedule.specs.Chunks.{Session, afterByte, textAt, afterBytes, textOf, textAtEnd, lastText, part}
 use Rattle.schedule.proofs.Whole.{take-again, byte-after, byte-text, lf-after, lf-text, after-append, text-append}
 
 -- ---- the bytes before the first LF
@@ -25,35 +26,35 @@ use Rattle.schedule.proofs.Whole.{take-again, byte-after, byte-text, lf
 abbrev withHeld : Session → List ℕ → Session
 withHeld s l = record { held = l; board = s .board; number = s .number }
 
-index-miss : (x : ℕ) (t : List ℕ) → eqb x lf ≡ false → indexOf lf (x ∷ t) ≡ suc (indexOf lf t)
+index-miss : (x : ℕ) (t : List ℕ) → eqb x lfByte ≡ false → indexOf lfByte (x ∷ t) ≡ suc (indexOf lfByte t)
 unfolding indexOf indexAfter
 index-miss x t e = rw e
 
-index-hit : (x : ℕ) (t : List ℕ) → eqb x lf ≡ true → indexOf lf (x ∷ t) ≡ 0
+index-hit : (x : ℕ) (t : List ℕ) → eqb x lfByte ≡ true → indexOf lfByte (x ∷ t) ≡ 0
 unfolding indexOf indexAfter
 index-hit x t e = rw e
 
 -- the byte at the place of the first LF
-at-index : (t : List ℕ) → indexOf lf t < length t → getD t (indexOf lf t) 0 ≡ lf
+at-index : (t : List ℕ) → indexOf lfByte t < length t → getD t (indexOf lfByte t) 0 ≡ lfByte
 unfolding indexOf
 at-index [] h = absurd (omega arith)
-at-index (x ∷ t) h = go (at-index t) (eqb x lf) refl
+at-index (x ∷ t) h = go (at-index t) (eqb x lfByte) refl
   where
-    go : (indexOf lf t < length t → getD t (indexOf lf t) 0 ≡ lf) → (z : Bool) → eqb x lf ≡ z → getD (x ∷ t) (indexOf lf (x ∷ t)) 0 ≡ lf
-    go ih true e = rw (index-hit x t e) (eqb-true x lf e)
+    go : (indexOf lfByte t < length t → getD t (indexOf lfByte t) 0 ≡ lfByte) → (z : Bool) → eqb x lfByte ≡ z → getD (x ∷ t) (indexOf lfByte (x ∷ t)) 0 ≡ lfByte
+    go ih true e = rw (index-hit x t e) (eqb-true x lfByte e)
     go ih false e = rw (index-miss x t e) (ih (omega (arith, h, index-miss x t e)))
 
 abbrev Quiet : List ℕ → Type 0
-Quiet t = (s : Session) → length (s .held) ≤ heldBytes → (afterBytes s (take (indexOf lf t) t) ≡ withHeld s (take heldBytes (s .held ++ take (indexOf lf t) t))) × (textOf s (take (indexOf lf t) t) ≡ [])
+Quiet t = (s : Session) → length (s .held) ≤ heldBytes → (afterBytes s (take (indexOf lfByte t) t) ≡ withHeld s (take heldBytes (s .held ++ take (indexOf lfByte t) t))) × (textOf s (take (indexOf lfByte t) t) ≡ [])
 
 quiet-none : (s : Session) → length (s .held) ≤ heldBytes → s ≡ withHeld s (take heldBytes (s .held ++ []))
 quiet-none s h = ap (withHeld s) (sym (take-all heldBytes (s .held) h) ∙ ap (take heldBytes) (sym (append-nil (s .held))))
 
-quiet-more : (x : ℕ) (t : List ℕ) → Quiet t → (z : Bool) → eqb x lf ≡ z → Quiet (x ∷ t)
+quiet-more : (x : ℕ) (t : List ℕ) → Quiet t → (z : Bool) → eqb x lfByte ≡ z → Quiet (x ∷ t)
 unfolding afterBytes textOf
 quiet-more x t ih true e s h = rw (index-hit x t e) (quiet-none s h, refl)
 quiet-more x t ih false e s h =
-    let k : ℕ = indexOf lf t in
+    let k : ℕ = indexOf lfByte t in
     let y : Session = withHeld s (take heldBytes (s .held ++ (x ∷ []))) in
     let few : length (take heldBytes (s .held ++ (x ∷ []))) ≤ heldBytes = omega (arith, length-take heldBytes (s .held ++ (x ∷ []))) in
     rw (index-miss x t e) (
@@ -68,17 +69,17 @@ quiet-more x t ih false e s h =
 quiet : (t : List ℕ) → Quiet t
 unfolding afterBytes textOf indexOf
 quiet [] s h = (quiet-none s h, refl)
-quiet (x ∷ t) s h = quiet-more x t (quiet t) (eqb x lf) refl s h
+quiet (x ∷ t) s h = quiet-more x t (quiet t) (eqb x lfByte) refl s h
 
 -- ---- a line of the chunk, from place i on: e is the place of its LF, or the chunk's end
 
-module _ (s : Session) (chunk : List ℕ) (i e : ℕ) (few : length (s .held) ≤ heldBytes) (inside : i ≤ length chunk) (found : e ≡ i + indexOf lf (slice i (length chunk) chunk)) where
+module _ (s : Session) (chunk : List ℕ) (i e : ℕ) (few : length (s .held) ≤ heldBytes) (inside : i ≤ length chunk) (found : e ≡ i + indexOf lfByte (slice i (length chunk) chunk)) where
   rest-is : slice i (length chunk) chunk ≡ drop i chunk
   unfolding slice
   rest-is = ap (drop i) (take-length chunk)
 
-  index-is : indexOf lf (drop i chunk) ≡ e - i
-  index-is = ap (indexOf lf) (sym rest-is) ∙ omega (arith, found)
+  index-is : indexOf lfByte (drop i chunk) ≡ e - i
+  index-is = ap (indexOf lfByte) (sym rest-is) ∙ omega (arith, found)
 
   -- what the bytes before e leave
   abbrev Before : Session
@@ -91,11 +92,11 @@ module _ (s : Session) (chunk : List ℕ) (i e : ℕ) (few : length (s .held) �
   before-lf-text = rw index-is at (quiet (drop i chunk) s few .1)
 
   module _ (more : e < length chunk) where
-    with-lf : part i (e + 1) chunk ≡ part i e chunk ++ (lf ∷ [])
+    with-lf : part i (e + 1) chunk ≡ part i e chunk ++ (lfByte ∷ [])
     with-lf =
         let n : e + 1 - i ≡ suc (e - i) = omega (arith, found) in
         let in-rest : e - i < length (drop i chunk) = omega (arith, length-drop i chunk, found) in
-        let is-lf : getD (drop i chunk) (e - i) 0 ≡ lf = rw index-is at (at-index (drop i chunk) (omega (arith, index-is, in-rest))) in
+        let is-lf : getD (drop i chunk) (e - i) 0 ≡ lfByte = rw index-is at (at-index (drop i chunk) (omega (arith, index-is, in-rest))) in
         ap (λ (k : ℕ). take k (drop i chunk)) n ∙ take-suc (drop i chunk) (e - i) 0 in-rest ∙ rw is-lf refl
 
     pub after-lf : afterBytes s (part i (e + 1) chunk)
@@ -103,19 +104,19 @@ module _ (s : Session) (chunk : List ℕ) (i e : ℕ) (few : length (s .held) �
     unfolding afterBytes
     after-lf =
         ap (afterBytes s) with-lf
-        ∙ after-append s (part i e chunk) (lf ∷ [])
-        ∙ ap (λ (z : Session). afterByte z lf) before-lf
-        ∙ lf-after Before lf refl
+        ∙ after-append s (part i e chunk) (lfByte ∷ [])
+        ∙ ap (λ (z : Session). afterByte z lfByte) before-lf
+        ∙ lf-after Before lfByte refl
 
     pub after-lf-text : textOf s (part i (e + 1) chunk) ≡ effectOf (s .board) (s .number) (chop (take heldBytes (s .held ++ part i e chunk))) .text
     unfolding textOf
     after-lf-text =
         ap (textOf s) with-lf
-        ∙ text-append s (part i e chunk) (lf ∷ [])
-        ∙ ap (λ (t : List ℕ). t ++ textOf (afterBytes s (part i e chunk)) (lf ∷ [])) before-lf-text
-        ∙ append-nil (textAt (afterBytes s (part i e chunk)) lf)
-        ∙ ap (λ (z : Session). textAt z lf) before-lf
-        ∙ lf-text Before lf refl
+        ∙ text-append s (part i e chunk) (lfByte ∷ [])
+        ∙ ap (λ (t : List ℕ). t ++ textOf (afterBytes s (part i e chunk)) (lfByte ∷ [])) before-lf-text
+        ∙ append-nil (textAt (afterBytes s (part i e chunk)) lfByte)
+        ∙ ap (λ (z : Session). textAt z lfByte) before-lf
+        ∙ lf-text Before lfByte refl
 
 -- ---- a chunk, line by line
 
@@ -147,10 +148,6 @@ take-least l n k e = go (leb n (length l)) refl
         take-all k l all ∙ sym (take-all n l more)
 
 -- ---- the beginning and the end
-
-pub starts : (line : List ℕ) → sessionOf startRack line ≡ start
-unfolding startRack
-starts line = refl
 
 pub first-board : fresh (setupOf 1 1) .board ≡ freshBoard smallest
 unfolding fresh guarded nodesAllowed consolesAllowed

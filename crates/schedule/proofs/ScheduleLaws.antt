@@ -1,5 +1,4 @@
 -- Laws of a line's effect.
-use Prim.Native.Nat.{ℕ}
 use mathlib.Core.Path.{_≡_}
 use borrow.Author.Tests.{ne-eqb, eq-eqb}
 use Rattle.board.specs.declared.Answer.{Answer}

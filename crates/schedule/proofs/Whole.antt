@@ -1,20 +1,19 @@
 -- What is written chunk by chunk is the output for the whole input (whole).
 use Prim.Native.Nat.{ℕ, zero, suc, _+_, _≤_, _<_}
-use mathlib.Core.Bool.{Bool, true, false, cond}
+use mathlib.Core.Bool.{Bool, true, false}
 use mathlib.Core.List.{List, [], _∷_, _++_, append-assoc, append-nil}
 use mathlib.Core.Path.{_≡_, refl, sym, ap, _∙_}
 use native.Mathlib.Omega.{arith}
-use borrow.Author.Tests.{lt-ltb, leb-true, leb-false}
-use lib.Dec.{eqb, leb, ltb}
-use lib.ListN.{length, take, length-append}
+use borrow.Author.Tests.{leb-true, leb-false}
+use lib.Dec.{eqb, leb}
+use lib.ListN.{length, take}
 use lib.Seq.{take-all, length-take-le}
 use Rattle.board.specs.declared.Board.{Board}
-use Rattle.lines.specs.declared.Line.{Line}
-use Rattle.lines.specs.declared.Line.the-variants.{TooLong}
-use Rattle.lines.specs.Lines.{lineOf}
-use Rattle.split.specs.Split.{lf, cr, chop, linesAfter, heldBytes}
+use Rattle.lines.specs.Lines.{lfByte, lineOf}
+use Rattle.lines.proofs.LinesLaws.{line-long}
+use Rattle.split.specs.Split.{chop, linesAfter, heldBytes}
 use Rattle.schedule.specs.Schedule.{Effect, effectOf, nextNumber, outputOf, scheduleText}
-use Rattle.schedule.specs.Chunks.{Session, start, withByte, lineEffect, afterLine, afterByte, textAt, afterBytes, textOf, textAtEnd, lastText, printed, joined}
+use Rattle.schedule.specs.Chunks.{Session, atStart, withByte, lineEffect, afterLine, afterByte, textAt, afterBytes, textOf, textAtEnd, lastText, printed, inputOf, startRack, sessionOf}
 
 -- ---- a line of which only the first 66 bytes are held is refused as the whole line is
 
@@ -23,10 +22,6 @@ unfolding chop
 chop-length [] = omega arith
 chop-length (x ∷ []) = omega arith
 chop-length (x ∷ y ∷ s) = omega (arith, chop-length (y ∷ s))
-
-line-long : (s : List ℕ) → 64 < length s → lineOf s ≡ TooLong
-unfolding lineOf
-line-long s h = rw (lt-ltb 64 (length s) h)
 
 module _ (f : List ℕ → List ℕ) (f-length : (s : List ℕ) → length s ≤ suc (length (f s))) where
   held-cases : (cur : List ℕ) (t : Bool) → leb (length cur) heldBytes ≡ t → lineOf (f (take heldBytes cur)) ≡ lineOf (f cur)
@@ -60,17 +55,17 @@ take-again zero s t = refl
 take-again (suc n) [] t = refl
 take-again (suc n) (x ∷ s) t = ap (λ (r : List ℕ). x ∷ r) (take-again n s t)
 
--- ---- one chunk: what is written at its bytes and at the end is the output for its lines
+-- ---- an input in one chunk: what is written at its bytes and at the end is the output for its lines
 
-abbrev held : List ℕ → Board → ℕ → Session
-held cur b n = record { held = take heldBytes cur; board = b; number = n }
+abbrev holding : List ℕ → Board → ℕ → Session
+holding cur b n = record { held = take heldBytes cur; board = b; number = n }
 
--- a chunk after which the run has come so far
+-- whatever stands before them in their first line, what is written at these bytes and at the end is the output for their lines
 abbrev Good : List ℕ → Type 0
-Good input = (cur : List ℕ) (b : Board) (n : ℕ) → textOf (held cur b n) input ++ lastText (afterBytes (held cur b n) input) ≡ outputOf b n (linesAfter cur input)
+Good input = (cur : List ℕ) (b : Board) (n : ℕ) → textOf (holding cur b n) input ++ lastText (afterBytes (holding cur b n) input) ≡ outputOf b n (linesAfter cur input)
 
 -- a byte that ends no line
-module _ (s : Session) (x : ℕ) (e : eqb x lf ≡ false) where
+module _ (s : Session) (x : ℕ) (e : eqb x lfByte ≡ false) where
   pub byte-after : afterByte s x ≡ withByte s x
   unfolding afterByte
   byte-after = rw e
@@ -80,7 +75,7 @@ module _ (s : Session) (x : ℕ) (e : eqb x lf ≡ false) where
   byte-text = rw e
 
 -- an LF
-module _ (s : Session) (x : ℕ) (e : eqb x lf ≡ true) where
+module _ (s : Session) (x : ℕ) (e : eqb x lfByte ≡ true) where
   pub lf-after : afterByte s x ≡ afterLine s
   unfolding afterByte
   lf-after = rw e
@@ -94,35 +89,35 @@ module _ (x : ℕ) (input : List ℕ) (ih : Good input) (cur : List ℕ) (b : Bo
   abbrev Next : List ℕ → Session → Type 0
   Next t z = (t ++ textOf z input) ++ lastText (afterBytes z input) ≡ outputOf b n (linesAfter cur (x ∷ input))
 
-  byte-held : eqb x lf ≡ false → Next [] (held (cur ++ (x ∷ [])) b n)
+  byte-held : eqb x lfByte ≡ false → Next [] (holding (cur ++ (x ∷ [])) b n)
   unfolding linesAfter
   byte-held e = rw e (ih (cur ++ (x ∷ [])) b n)
 
-  line-ended : eqb x lf ≡ true → Next (effectOf b n (chop cur) .text) (held [] (effectOf b n (chop cur) .board) (nextNumber n))
+  line-ended : eqb x lfByte ≡ true → Next (effectOf b n (chop cur) .text) (holding [] (effectOf b n (chop cur) .board) (nextNumber n))
   unfolding linesAfter outputOf
   line-ended e =
-      let z : Session = held [] (effectOf b n (chop cur) .board) (nextNumber n) in
+      let z : Session = holding [] (effectOf b n (chop cur) .board) (nextNumber n) in
       rw e (append-assoc (effectOf b n (chop cur) .text) (textOf z input) (lastText (afterBytes z input)) ∙ ap (λ (t : List ℕ). effectOf b n (chop cur) .text ++ t) (ih [] (effectOf b n (chop cur) .board) (nextNumber n)))
 
   next : (t u : List ℕ) (z y : Session) → t ≡ u → z ≡ y → Next u y → Next t z
   next t u z y e f g = rw (e, f) g
 
-  byte-cases : (t : Bool) → eqb x lf ≡ t → Next (textAt (held cur b n) x) (afterByte (held cur b n) x)
+  byte-cases : (t : Bool) → eqb x lfByte ≡ t → Next (textAt (holding cur b n) x) (afterByte (holding cur b n) x)
   byte-cases true e =
       next _ _ _ _
-      (lf-text (held cur b n) x e ∙ ap (λ (z : Effect). z .text) (chop-effect b n cur))
-      (lf-after (held cur b n) x e ∙ ap (λ (z : Effect). held [] (z .board) (nextNumber n)) (chop-effect b n cur))
+      (lf-text (holding cur b n) x e ∙ ap (λ (z : Effect). z .text) (chop-effect b n cur))
+      (lf-after (holding cur b n) x e ∙ ap (λ (z : Effect). holding [] (z .board) (nextNumber n)) (chop-effect b n cur))
       (line-ended e)
   byte-cases false e =
       next _ _ _ _
-      (byte-text (held cur b n) x e)
-      (byte-after (held cur b n) x e ∙ ap (λ (l : List ℕ). record { held = l; board = b; number = n }) (take-again heldBytes cur (x ∷ [])))
+      (byte-text (holding cur b n) x e)
+      (byte-after (holding cur b n) x e ∙ ap (λ (l : List ℕ). record { held = l; board = b; number = n }) (take-again heldBytes cur (x ∷ [])))
       (byte-held e)
 
 good : (input : List ℕ) → Good input
 unfolding textOf afterBytes
 good [] cur b n = last-line b n cur
-good (x ∷ input) cur b n = byte-cases x input (good input) cur b n (eqb x lf) refl
+good (x ∷ input) cur b n = byte-cases x input (good input) cur b n (eqb x lfByte) refl
 
 -- ---- chunks in turn
 
@@ -138,16 +133,21 @@ text-append s (x ∷ c) d =
     ap (λ (t : List ℕ). textAt s x ++ t) (text-append (afterByte s x) c d)
     ∙ sym (append-assoc (textAt s x) (textOf (afterByte s x) c) (textOf (afterBytes (afterByte s x) c) d))
 
-in-turn : (s : Session) (cs : List (List ℕ)) → printed s cs ≡ textOf s (joined cs) ++ lastText (afterBytes s (joined cs))
-unfolding printed joined textOf afterBytes
+in-turn : (s : Session) (cs : List (List ℕ)) → printed s cs ≡ textOf s (inputOf cs) ++ lastText (afterBytes s (inputOf cs))
+unfolding printed inputOf textOf afterBytes
 in-turn s [] = refl
 in-turn s (c ∷ cs) =
     ap (λ (t : List ℕ). textOf s c ++ t) (in-turn (afterBytes s c) cs)
-    ∙ sym (append-assoc (textOf s c) (textOf (afterBytes s c) (joined cs)) (lastText (afterBytes (afterBytes s c) (joined cs))))
-    ∙ ap (λ (t : List ℕ). t ++ lastText (afterBytes (afterBytes s c) (joined cs))) (sym (text-append s c (joined cs)))
-    ∙ ap (λ (z : Session). textOf s (c ++ joined cs) ++ lastText z) (sym (after-append s c (joined cs)))
+    ∙ sym (append-assoc (textOf s c) (textOf (afterBytes s c) (inputOf cs)) (lastText (afterBytes (afterBytes s c) (inputOf cs))))
+    ∙ ap (λ (t : List ℕ). t ++ lastText (afterBytes (afterBytes s c) (inputOf cs))) (sym (text-append s c (inputOf cs)))
+    ∙ ap (λ (z : Session). textOf s (c ++ inputOf cs) ++ lastText z) (sym (after-append s c (inputOf cs)))
 
 -- The theorem: wherever the chunks of an input end, what is written is the output for the whole input.
-pub whole : (cs : List (List ℕ)) → printed start cs ≡ scheduleText (joined cs)
+pub whole : (cs : List (List ℕ)) → printed atStart cs ≡ scheduleText (inputOf cs)
 unfolding scheduleText
-whole cs = in-turn start cs ∙ good (joined cs) [] (start .board) (start .number)
+whole cs = in-turn atStart cs ∙ good (inputOf cs) [] (atStart .board) (atStart .number)
+
+-- The code's first rack is at the start, whatever the lent line holds.
+pub starts : (line : List ℕ) → sessionOf startRack line ≡ atStart
+unfolding startRack
+starts line = refl

@@ -8,7 +8,8 @@ use lib.ListN.{take, drop}
 use Rattle.board.specs.declared.Board.{Board}
 use Rattle.board.specs.Boards.{freshBoard}
 use Rattle.board.specs.Steps.{smallest}
-use Rattle.split.specs.Split.{lf, chop, heldBytes}
+use Rattle.lines.specs.Lines.{lfByte}
+use Rattle.split.specs.Split.{chop, heldBytes}
 use Rattle.schedule.specs.declared.Rack.{Rack}
 use Rattle.schedule.specs.Schedule.{Effect, effectOf, firstNumber, nextNumber}
 
@@ -18,8 +19,9 @@ pub record Session : Type 0 where
   pub board : Board
   pub number : ℕ
 
-abbrev pub start : Session
-start = record { held = []; board = freshBoard smallest; number = firstNumber }
+-- before the first byte
+abbrev pub atStart : Session
+atStart = record { held = []; board = freshBoard smallest; number = firstNumber }
 
 -- a byte that ends no line is held, if there is room
 abbrev pub withByte : Session → ℕ → Session
@@ -35,11 +37,11 @@ afterLine s = record { held = []; board = lineEffect s .board; number = nextNumb
 
 -- after one byte more
 unfoldable pub afterByte : Session → ℕ → Session
-afterByte s x = cond (eqb x lf) (afterLine s) (withByte s x)
+afterByte s x = cond (eqb x lfByte) (afterLine s) (withByte s x)
 
 -- what is written at a byte: the output line, if it is an LF
 unfoldable pub textAt : Session → ℕ → List ℕ
-textAt s x = cond (eqb x lf) (lineEffect s .text) []
+textAt s x = cond (eqb x lfByte) (lineEffect s .text) []
 
 unfoldable pub afterBytes : Session → List ℕ → Session
 afterBytes s [] = s
@@ -63,9 +65,9 @@ printed s [] = lastText s
 printed s (c ∷ cs) = textOf s c ++ printed (afterBytes s c) cs
 
 -- the input that the chunks make
-unfoldable pub joined : List (List ℕ) → List ℕ
-joined [] = []
-joined (c ∷ cs) = c ++ joined cs
+unfoldable pub inputOf : List (List ℕ) → List ℕ
+inputOf [] = []
+inputOf (c ∷ cs) = c ++ inputOf cs
 
 -- the session that stands in a rack and its lent line
 abbrev pub sessionOf : Rack → List ℕ → Session
@@ -73,7 +75,7 @@ sessionOf r line = record { held = take (r .held) line; board = r .board; number
 
 -- a rack before the first byte
 unfoldable pub startRack : Rack
-startRack = record { board = start .board; number = start .number; held = 0; took = 0; wrote = 0 }
+startRack = record { board = atStart .board; number = atStart .number; held = 0; took = 0; wrote = 0 }
 
 -- the bytes of a chunk from place i up to place j
 abbrev pub part : ℕ → ℕ → List ℕ → List ℕ

@@ -32,8 +32,8 @@ answerTo line b = answerOf (lineOf line) b
 unfoldable pub boardAfter : Board → Answer → Board
 boardAfter b a = cond (eqb (a .refusal) 0) (a .board) b
 
--- 'Each output line has line number, refusal or 0, outcome, ts, console, value; the last three are 0 unless finished' (so has
--- every other outcome)
+-- 'Each output line has line number, refusal or 0, outcome, ts, console, value; the last three are 0 unless finished': of any
+-- other outcome the tag is (0, 0) and the value 0
 unfoldable pub rowOf : ℕ → Answer → Row
 rowOf n a =
     record {

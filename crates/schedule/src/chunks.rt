@@ -1,7 +1,7 @@
 // A run over an input in chunks. Each chunk, the bytes held of a line and the output stand in lent memory.
 ghost use mathlib.Core.Path.{_≡_};
-ghost use Prim.Native.Nat.{_+_, _*_, _-_, _<_, _≤_, min};
-ghost use lib.ListN.{length, take, drop};
+ghost use Prim.Native.Nat.{_+_, _*_, _-_, _<_, _≤_};
+ghost use lib.ListN.{length, take};
 ghost use lib.Seq.{sets};
 ghost use Rattle.split.specs.Split.{heldBytes};
 ghost use Rattle.text.specs.Text.{lineBytes};
@@ -14,6 +14,7 @@ use bytes::scan::find;
 use split::HELD_BYTES;
 use split::chopped;
 use split::hold;
+use split::least;
 use text::LINE_BYTES;
 
 // Takes the next line of the chunk, or what there is of it. The caller has seen that there is a byte left, that the line held has
@@ -53,7 +54,7 @@ fn take_line(s: Rack, line: &mut [u8], chunk: &[u8], out: &mut [u8]) -> Rack
 // byte.
 fn take_all(s: Rack, line: &mut [u8], chunk: &[u8], out: &mut [u8]) -> Rack
     requires { ⌜ (length (now line) ≡ heldBytes) × (s .held ≤ heldBytes) × (length (now chunk) * lineBytes ≤ length (now out)) ⌝ }
-    ensures { λ r. ⌜ (sessionOf r (now (line .exit)) ≡ afterBytes (sessionOf s (now (line .entry))) (now (chunk .entry))) × (r .wrote ≡ length (textOf (sessionOf s (now (line .entry))) (now (chunk .entry)))) × (now (out .exit) ≡ sets (now (out .entry)) 0 (textOf (sessionOf s (now (line .entry))) (now (chunk .entry)))) ⌝ }
+    ensures { λ r. ⌜ (r .wrote ≤ length (now (out .exit))) × (sessionOf r (now (line .exit)) ≡ afterBytes (sessionOf s (now (line .entry))) (now (chunk .entry))) × (r .wrote ≡ length (textOf (sessionOf s (now (line .entry))) (now (chunk .entry)))) × (now (out .exit) ≡ sets (now (out .entry)) 0 (textOf (sessionOf s (now (line .entry))) (now (chunk .entry)))) ⌝ }
 {
     let b = s.board;
     let mut r = Rack {
@@ -69,16 +70,10 @@ fn take_all(s: Rack, line: &mut [u8], chunk: &[u8], out: &mut [u8]) -> Rack
     r
 }
 
-fn least(a: usize, b: usize) -> usize
-    ensures { λ r. ⌜ r ≡ min a b ⌝ }
-{
-    if a < b { a } else { b }
-}
-
 // Takes the first n bytes of the chunk, all if there are fewer. The caller has seen to the lengths as for take_all.
 fn take_first(s: Rack, line: &mut [u8], chunk: &[u8], n: usize, out: &mut [u8]) -> Rack
     requires { ⌜ (length (now line) ≡ heldBytes) × (length (now chunk) * lineBytes ≤ length (now out)) ⌝ }
-    ensures { λ r. ⌜ (sessionOf r (now (line .exit)) ≡ afterBytes (sessionOf s (now (line .entry))) (take n (now (chunk .entry)))) × (r .wrote ≡ length (textOf (sessionOf s (now (line .entry))) (take n (now (chunk .entry))))) × (now (out .exit) ≡ sets (now (out .entry)) 0 (textOf (sessionOf s (now (line .entry))) (take n (now (chunk .entry))))) ⌝ }
+    ensures { λ r. ⌜ (r .wrote ≤ length (now (out .exit))) × (sessionOf r (now (line .exit)) ≡ afterBytes (sessionOf s (now (line .entry))) (take n (now (chunk .entry)))) × (r .wrote ≡ length (textOf (sessionOf s (now (line .entry))) (take n (now (chunk .entry))))) × (now (out .exit) ≡ sets (now (out .entry)) 0 (textOf (sessionOf s (now (line .entry))) (take n (now (chunk .entry))))) ⌝ }
 {
     let k = least(n, chunk.len());
     let mut t = s;
@@ -89,7 +84,7 @@ fn take_first(s: Rack, line: &mut [u8], chunk: &[u8], n: usize, out: &mut [u8]) 
 // The end of the input: what is held is its last line, if it is not empty. The caller has seen that an output line has room.
 fn take_last(s: Rack, line: &[u8], out: &mut [u8]) -> usize
     requires { ⌜ lineBytes ≤ length (now out) ⌝ }
-    ensures { λ r. ⌜ (r ≡ length (lastText (sessionOf s (now (line .entry))))) × (now (out .exit) ≡ sets (now (out .entry)) 0 (lastText (sessionOf s (now (line .entry))))) ⌝ }
+    ensures { λ r. ⌜ (r ≤ length (now (out .exit))) × (r ≡ length (lastText (sessionOf s (now (line .entry))))) × (now (out .exit) ≡ sets (now (out .entry)) 0 (lastText (sessionOf s (now (line .entry))))) ⌝ }
 {
     let k = least(s.held, line.len());
     if k == 0 {
@@ -127,14 +122,14 @@ pub fn run_chunk(
     n: usize,
     out: &mut [u8; OUT_BYTES],
 ) -> Rack
-    ensures { λ r. ⌜ (sessionOf r (now (line .exit)) ≡ afterBytes (sessionOf s (now (line .entry))) (take n (now (chunk .entry)))) × (r .wrote ≡ length (textOf (sessionOf s (now (line .entry))) (take n (now (chunk .entry))))) × (now (out .exit) ≡ sets (now (out .entry)) 0 (textOf (sessionOf s (now (line .entry))) (take n (now (chunk .entry))))) ⌝ }
+    ensures { λ r. ⌜ (r .wrote ≤ length (now (out .exit))) × (sessionOf r (now (line .exit)) ≡ afterBytes (sessionOf s (now (line .entry))) (take n (now (chunk .entry)))) × (r .wrote ≡ length (textOf (sessionOf s (now (line .entry))) (take n (now (chunk .entry))))) × (now (out .exit) ≡ sets (now (out .entry)) 0 (textOf (sessionOf s (now (line .entry))) (take n (now (chunk .entry))))) ⌝ }
 {
     take_first(s, line, chunk, n, out)
 }
 
 // Ends the input: puts what its last line comes to at the start of the output, and answers how many bytes that is.
 pub fn run_end(s: Rack, line: &[u8; HELD_BYTES], out: &mut [u8; OUT_BYTES]) -> usize
-    ensures { λ r. ⌜ (r ≡ length (lastText (sessionOf s (now (line .entry))))) × (now (out .exit) ≡ sets (now (out .entry)) 0 (lastText (sessionOf s (now (line .entry))))) ⌝ }
+    ensures { λ r. ⌜ (r ≤ length (now (out .exit))) × (r ≡ length (lastText (sessionOf s (now (line .entry))))) × (now (out .exit) ≡ sets (now (out .entry)) 0 (lastText (sessionOf s (now (line .entry))))) ⌝ }
 {
     take_last(s, line, out)
 }

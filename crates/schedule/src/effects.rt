@@ -4,19 +4,22 @@ ghost use Prim.Native.Nat.{_+_, _≤_};
 ghost use lib.ListN.{length};
 ghost use lib.Seq.{sets};
 ghost use Rattle.text.specs.Text.{lineBytes};
-ghost use Rattle.board.specs.Answers.{refuse};
 ghost use Rattle.schedule.specs.Schedule.{answerTo, boardAfter, rowOf, effectOf, nextNumber};
-use crate::Ran;
 use board::Answer;
 use board::Board;
 use board::refusals::LINE_TOO_LONG;
 use board::refusals::NOT_THREE_FIELDS;
 use lines::Line;
 use lines::reading::read_line;
-use parts::Outcome;
 use text::Row;
 use text::writing::put_line;
 use verbs::step_of;
+
+// The board after a line, and how far the output is written.
+pub(crate) struct Ran {
+    pub board: Board,
+    pub wrote: usize,
+}
 
 // The number of the line after line n.
 pub(crate) fn next_number(n: u64) -> u64
@@ -28,24 +31,14 @@ pub(crate) fn next_number(n: u64) -> u64
     n
 }
 
-fn refused(refusal: u32, b: Board) -> Answer
-    ensures { λ r. ⌜ r ≡ refuse refusal b ⌝ }
-{
-    Answer {
-        outcome: Outcome::Refused,
-        refusal: refusal,
-        board: b,
-    }
-}
-
 // The answer to a line.
 fn answer_to(line: &[u8], b: Board) -> Answer
     ensures { λ r. ⌜ r ≡ answerTo (now (line .entry)) b ⌝ }
 {
     let l = read_line(line);
     match l {
-        Line::TooLong => refused(LINE_TOO_LONG, b),
-        Line::NotThree => refused(NOT_THREE_FIELDS, b),
+        Line::TooLong => Answer::refused(LINE_TOO_LONG, b),
+        Line::NotThree => Answer::refused(NOT_THREE_FIELDS, b),
         Line::Numbers(verb, x, y) => step_of(b, verb, x, y),
     }
 }

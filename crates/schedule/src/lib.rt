@@ -13,9 +13,3 @@ pub struct Rack {
     pub took: usize,
     pub wrote: usize,
 }
-
-// What a line comes to: the board after it, and how far the output is written.
-pub struct Ran {
-    pub board: Board,
-    pub wrote: usize,
-}

@@ -1,2 +1,3 @@
--- Laws of the lines of an input.
+-- Laws of the lines of an input, and examples.
 pub mod SplitLaws
+pub mod Examples

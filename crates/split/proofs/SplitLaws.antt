@@ -9,20 +9,21 @@ use borrow.Author.Tests.{ne-eqb, leb-true, leb-false}
 use lib.Dec.{leb}
 use lib.ListN.{length, take, getD, length-append}
 use lib.Seq.{take-all, take-length, take-suc, take-append-add, length-take-le}
-use Rattle.split.specs.Split.{cr, chop}
+use Rattle.lines.specs.Lines.{crByte}
+use Rattle.split.specs.Split.{chop}
 
 -- ---- the CR of a CR LF
 
-chop-cr : (s : List ℕ) → chop (s ++ (cr ∷ [])) ≡ s
+chop-cr : (s : List ℕ) → chop (s ++ (crByte ∷ [])) ≡ s
 unfolding chop
 chop-cr [] = refl
 chop-cr (y ∷ []) = refl
 chop-cr (y ∷ z ∷ s) = ap (λ (t : List ℕ). y ∷ t) (chop-cr (z ∷ s))
 
-chop-other : (s : List ℕ) (x : ℕ) → (x ≡ cr → ⊥) → chop (s ++ (x ∷ [])) ≡ s ++ (x ∷ [])
+chop-other : (s : List ℕ) (x : ℕ) → (x ≡ crByte → ⊥) → chop (s ++ (x ∷ [])) ≡ s ++ (x ∷ [])
 unfolding chop
-chop-other [] x h = rw (ne-eqb x cr h)
-chop-other (y ∷ []) x h = rw (ne-eqb x cr h)
+chop-other [] x h = rw (ne-eqb x crByte h)
+chop-other (y ∷ []) x h = rw (ne-eqb x crByte h)
 chop-other (y ∷ z ∷ s) x h = ap (λ (t : List ℕ). y ∷ t) (chop-other (z ∷ s) x h)
 
 module _ (l : List ℕ) (h : ℕ) (pos : h ≡ 0 → ⊥) (le : h ≤ length l) where
@@ -31,10 +32,10 @@ module _ (l : List ℕ) (h : ℕ) (pos : h ≡ 0 → ⊥) (le : h ≤ length l) 
       let e : suc (h - 1) ≡ h = omega arith in
       ap (λ (n : ℕ). take n l) (sym e) ∙ take-suc l (h - 1) 0 (omega arith)
 
-  pub chop-held : getD l (h - 1) 0 ≡ cr → take (h - 1) l ≡ chop (take h l)
+  pub chop-held : getD l (h - 1) 0 ≡ crByte → take (h - 1) l ≡ chop (take h l)
   chop-held e = sym (ap chop (last-held ∙ rw e) ∙ chop-cr (take (h - 1) l))
 
-  pub chop-kept : (getD l (h - 1) 0 ≡ cr → ⊥) → take h l ≡ chop (take h l)
+  pub chop-kept : (getD l (h - 1) 0 ≡ crByte → ⊥) → take h l ≡ chop (take h l)
   chop-kept e = sym (ap chop last-held ∙ chop-other (take (h - 1) l) (getD l (h - 1) 0) e ∙ sym last-held)
 
 -- ---- what is held

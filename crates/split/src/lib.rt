@@ -8,7 +8,8 @@ ghost use Rattle.split.specs.Split.{chop};
 // How many bytes of a line are held: one more than a line and its CR can have, so that a line that is too long is seen to be.
 pub const HELD_BYTES: usize = 66;
 
-fn least(a: usize, b: usize) -> usize
+// The lesser of two numbers.
+pub fn least(a: usize, b: usize) -> usize
     ensures { λ r. ⌜ r ≡ min a b ⌝ }
 {
     if a < b { a } else { b }

@@ -1,5 +1,5 @@
 -- Laws of numbers in decimal, of fields and of lines.
--- put_number goes by decimal-one and decimal-more; line-short is for callers, who must have room.
+-- put_number goes by decimal-one and decimal-more.
 use mathlib.Core.Path.{_≡_, refl, sym, ap, _∙_}
 use mathlib.Core.Bool.{Bool, true, false}
 use mathlib.Core.List.{List, [], _∷_, _++_, append-assoc}
@@ -9,10 +9,10 @@ use lib.Dec.{ltb}
 use lib.ListN.{length, set, length-append}
 use lib.Seq.{sets}
 use borrow.Author.Tests.{lt-ltb, le-ltb, ltb-true, ltb-false}
-use Rattle.lines.specs.Lines.{commaByte}
+use Rattle.lines.specs.Lines.{commaByte, lfByte}
 use Rattle.text.specs.declared.Row.{Row}
 use Rattle.text.proofs.WritesLaws.{sets-snoc, sets-sets}
-use Rattle.text.specs.Text.{lfByte, numberBytes, wordBytes, lineBytes, digitOf, digits, decimal, fieldText, joined, lineText}
+use Rattle.text.specs.Text.{numberBytes, wordBytes, digitOf, digits, decimal, fieldText, joined, lineText}
 
 -- ---- the digits of a number
 
@@ -163,20 +163,6 @@ module _ (r : Row) where
         length-append outcomeText (tsText ++ (consoleText ++ valueText)),
         length-append tsText (consoleText ++ valueText),
         length-append consoleText valueText,
-      )
-
-  -- for callers, who must have room: what the types say of a row
-  pub line-short : r .refusal < 2 ^ 32 → r .outcome < 2 ^ 32 → r .ts < 2 ^ 32 → r .console < 2 ^ 32 → r .value < 2 ^ 32 → length (lineText r) ≤ lineBytes
-  line-short b c d e f =
-      omega (
-        arith,
-        line-length,
-        field-short (r .number) commaByte,
-        field-short-32 (r .refusal) commaByte b,
-        field-short-32 (r .outcome) commaByte c,
-        field-short-32 (r .ts) commaByte d,
-        field-short-32 (r .console) commaByte e,
-        field-short-32 (r .value) lfByte f,
       )
 
   -- six writes, each at the place after the one before it

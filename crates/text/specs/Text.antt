@@ -4,11 +4,8 @@ use Prim.Native.Nat.{ℕ, zero, suc, _+_, _/_, _%_}
 use mathlib.Core.Bool.{cond}
 use mathlib.Core.List.{List, [], _∷_, _++_}
 use lib.Dec.{ltb}
-use Rattle.lines.specs.Lines.{commaByte, zeroByte}
+use Rattle.lines.specs.Lines.{commaByte, lfByte, zeroByte}
 use Rattle.text.specs.declared.Row.{Row}
-
-abbrev pub lfByte : ℕ
-lfByte = 10
 
 -- the most bytes of a field with the byte that ends it: 20 digits of a number of 64 bits, 10 of one of 32 bits
 abbrev pub numberBytes : ℕ

@@ -6,7 +6,6 @@ use board::Board;
 use board::refusals::NO_SUCH_VERB;
 use parts::ConsoleId;
 use parts::NodeId;
-use parts::Outcome;
 
 // The step with this number, put to the board with its two numbers. A step that has no use for the second ignores it.
 pub fn step_of(b: Board, verb: u32, x: u32, y: u32) -> Answer
@@ -19,10 +18,6 @@ pub fn step_of(b: Board, verb: u32, x: u32, y: u32) -> Answer
         3 => b.deliver(ConsoleId(x), NodeId(y)),
         4 => b.node_down(NodeId(x)),
         5 => b.console_down(ConsoleId(x)),
-        6..=4294967295 => Answer {
-            outcome: Outcome::Refused,
-            refusal: NO_SUCH_VERB,
-            board: b,
-        },
+        6..=4294967295 => Answer::refused(NO_SUCH_VERB, b),
     }
 }

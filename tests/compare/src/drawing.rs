@@ -130,6 +130,10 @@ pub fn edges() -> Vec<Vec<u8>> {
         between(&stretched(length), b"\n");
         between(&vec![b'x'; length], b"\r\n");
     }
+    // A reader's piece of 4096 bytes ends at each byte of these lines.
+    for length in 4070..=4096 {
+        schedules.push([&vec![b'x'; length], &b"\n0,3,2\r\n2,1,7\r\r\n3,1,0\r\n"[..]].concat());
+    }
     schedules
 }
 

@@ -104,8 +104,8 @@ fn both(rack: &Path, schedule: &[u8], seed: u64, fault: Fault, chance: &mut Chan
     counts.add(&expected);
 }
 
-/// The lengths of the pieces in which an input is fed, so that the program's reads end anywhere; a short one now and then byte by
-/// byte.
+/// The lengths of the pieces in which an input is fed. What waits in the pipe is read together; only a short input that is fed byte
+/// by byte, now and then, is sure to be read so.
 fn pieces(length: usize, chance: &mut Chance) -> Vec<usize> {
     let most = match chance.below(8) {
         0 if length <= 200 => 1,

@@ -1,10 +1,10 @@
 -- Invariant: the first i bytes stand behind those that were held.
-use mathlib.Core.Path.{_≡_, refl, sym, ap, _∙_}
-use Prim.Native.Nat.{_+_, _-_, _≤_}
+use mathlib.Core.Path.{_≡_, refl, _∙_}
+use Prim.Native.Nat.{_-_, _≤_}
 use native.Mathlib.Numerals.{add-one}
 use native.Mathlib.Omega.{arith}
 use lib.ListN.{length}
-use lib.Seq.{paste, paste-zero, paste-suc, length-paste, take-paste}
+use lib.Seq.{paste, paste-zero, paste-suc, take-paste}
 use Rattle.split.proofs.SplitLaws.{held-is}
 use borrow.Author.Needs.{needs}
 use Rattle.split.proofs.hold.Statement.{statement}

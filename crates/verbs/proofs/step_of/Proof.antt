@@ -1,4 +1,5 @@
 -- Each arm is a case of the definition.
+use mathlib.Core.Path.{_∙_}
 use native.Mathlib.Omega.{arith}
 use Rattle.verbs.proofs.VerbsLaws.{no-such-verb}
 use Rattle.verbs.specs.Verbs.{stepOf}
@@ -23,6 +24,9 @@ node-down-requires c κs = search needs
 
 console-down-requires : tie.Need-console-down-requires
 console-down-requires c κs = search needs
+
+refused-requires : tie.Need-refused-requires
+refused-requires c κs = search needs
 
 returns : tie.Need-returns
 unfolding stepOf
@@ -49,7 +53,7 @@ unfolding stepOf
 returns-6 c = rw (c .before .match .keys6) (c .console-down .ensures)
 
 returns-7 : tie.Need-returns-7
-returns-7 c = no-such-verb _ _ _ _ (omega (arith, c .match .rest))
+returns-7 c = c .refused .ensures ∙ no-such-verb _ _ _ _ (omega (arith, c .before .match .rest))
 
 pub step-of-spec : {M : Type 1} → statement M
 step-of-spec =
@@ -61,6 +65,7 @@ step-of-spec =
     deliver-requires
     node-down-requires
     console-down-requires
+    refused-requires
     returns
     returns-2
     returns-3

@@ -1,11 +1,11 @@
 -- Invariant: the run stands where the bytes taken so far leave it, and what they come to is written. One line more is what
 -- take_line says of it (after-more, text-more).
-use Prim.Native.Nat.{ℕ, _+_, _*_, _-_, _≤_}
-use mathlib.Core.List.{List, _++_}
-use mathlib.Core.Path.{_≡_, refl, sym, ap, _∙_}
+use Prim.Native.Nat.{ℕ, _*_, _-_, _≤_}
+use mathlib.Core.List.{List}
+use mathlib.Core.Path.{_≡_, refl, ap, _∙_}
 use native.Mathlib.Omega.{arith}
 use lib.ListN.{length, take, length-append}
-use lib.Seq.{sets, length-sets, take-length}
+use lib.Seq.{sets, take-length}
 use Rattle.text.specs.Text.{lineBytes}
 use Rattle.text.proofs.WritesLaws.{sets-sets}
 use Rattle.split.specs.Split.{heldBytes}
@@ -41,22 +41,27 @@ loop-less c = search needs
 
 loop-again : tie.Need-loop-again Inv-loop μ-loop
 loop-again c =
-    let s : Session = sessionOf (c .before .before .before .before .before .before .before .before .before .before .before .before .before .before .args .s) (c .before .before .before .before .before .before .before .before .before .before .before .before .before .before .args .line .now) in
-    let i : ℕ = c .before .before .before .before .before .before .before .before .before .loop .r .took in
-    let j : ℕ = c .before .before .before .before .take-line .result .took in
-    let chunk : List ℕ = c .before .before .before .before .before .before .before .before .before .before .before .before .before .before .args .chunk .now in
+    let taken = c .before .before .before .before in
+    let turn = taken .before .before .before .before .before in
+    let entry = turn .before .before .before .before .before in
+    let s : Session = sessionOf (entry .args .s) (entry .args .line .now) in
+    let chunk : List ℕ = entry .args .chunk .now in
+    let i : ℕ = turn .loop .r .took in
+    let j : ℕ = taken .take-line .result .took in
     let le : i ≤ j = omega arith in
-    let here : Session = sessionOf (c .before .before .before .before .before .before .before .before .before .loop .r) (c .before .before .before .before .before .before .before .before .before .loop .line) in
-    let so-far : List ℕ = textOf s (take i chunk) in
-    let more = text-more s chunk i j le here (c .before .before .before .before .before .before .before .before .before .loop .inv .5) in (
+    let here : Session = sessionOf (turn .loop .r) (turn .loop .line) in
+    let more = text-more s chunk i j le here (turn .loop .inv .5) in (
       omega arith,
       search needs,
       omega arith,
       search needs,
       omega arith,
-      c .before .before .before .before .take-line .ensures .1 .0 ∙ after-more s chunk i j le here (c .before .before .before .before .before .before .before .before .before .loop .inv .5),
-      omega (arith, c .before .before .before .before .take-line .ensures .1 .1 .0, c .before .before .before .before .before .before .before .before .before .loop .inv .6, ap length more, length-append so-far (textOf here (part i j chunk))),
-      c .before .before .before .before .take-line .ensures .1 .1 .1 ∙ ap (λ (o : List ℕ). sets o (c .before .before .before .before .before .before .before .before .before .loop .r .wrote) (textOf here (part i j chunk))) (c .before .before .before .before .before .before .before .before .before .loop .inv .7) ∙ sets-sets (c .before .before .before .before .before .before .before .before .before .before .before .before .before .before .args .out .now) 0 (c .before .before .before .before .before .before .before .before .before .loop .r .wrote) so-far (textOf here (part i j chunk)) (omega (arith, c .before .before .before .before .before .before .before .before .before .loop .inv .6)) ∙ ap (sets (c .before .before .before .before .before .before .before .before .before .before .before .before .before .before .args .out .now) 0) more,
+      taken .take-line .ensures .1 .0 ∙ after-more s chunk i j le here (turn .loop .inv .5),
+      omega (arith, taken .take-line .ensures .1 .1 .0, turn .loop .inv .6, ap length more, length-append (textOf s (take i chunk)) (textOf here (part i j chunk))),
+      taken .take-line .ensures .1 .1 .1
+          ∙ ap (λ (o : List ℕ). sets o (turn .loop .r .wrote) (textOf here (part i j chunk))) (turn .loop .inv .7)
+          ∙ sets-sets (entry .args .out .now) 0 (turn .loop .r .wrote) (textOf s (take i chunk)) (textOf here (part i j chunk)) (omega (arith, turn .loop .inv .6))
+          ∙ ap (sets (entry .args .out .now) 0) more,
     )
 
 same-length : tie.Need-same-length Inv-loop μ-loop
@@ -67,10 +72,11 @@ same-length-2 c = search needs
 
 returns : tie.Need-returns Inv-loop μ-loop
 returns c =
-    let all : take (c .before .before .loop .r .took) (c .before .before .before .before .before .before .before .args .chunk .now) ≡ c .before .before .before .before .before .before .before .args .chunk .now =
-    let n : c .before .before .loop .r .took ≡ length (c .before .before .before .before .before .before .before .args .chunk .now) = omega arith in
-    ap (λ (k : ℕ). take k (c .before .before .before .before .before .before .before .args .chunk .now)) n ∙ take-length (c .before .before .before .before .before .before .before .args .chunk .now) in
-    (rw all at (c .before .before .loop .inv .5), rw all at (c .before .before .loop .inv .6), rw all at (c .before .before .loop .inv .7))
+    let over = c .before .before in
+    let chunk : List ℕ = over .before .before .before .before .before .args .chunk .now in
+    let n : over .loop .r .took ≡ length chunk = omega arith in
+    let all : take (over .loop .r .took) chunk ≡ chunk = ap (λ (k : ℕ). take k chunk) n ∙ take-length chunk in
+    (omega arith, rw all at (over .loop .inv .5), rw all at (over .loop .inv .6), rw all at (over .loop .inv .7))
 
 pub take-all-spec : {M : Type 1} → statement M
 take-all-spec =

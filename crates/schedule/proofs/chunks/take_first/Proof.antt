@@ -1,9 +1,8 @@
 -- What there is of the held bytes and of the chunk is what take_all gets (take-least).
-use Prim.Native.Nat.{ℕ, _≤_, min}
-use mathlib.Core.List.{List}
+use Prim.Native.Nat.{min}
 use mathlib.Core.Path.{_≡_, sym, ap, _∙_}
 use native.Mathlib.Omega.{arith}
-use lib.ListN.{length, take, length-take}
+use lib.ListN.{take, length-take}
 use lib.Seq.{length-take-le}
 use Rattle.schedule.proofs.ChunksLaws.{take-least}
 use borrow.Author.Needs.{needs}
@@ -21,7 +20,9 @@ slice-aggregate-take-all c = sym (length-take-le _ _ (omega arith))
 
 take-all-requires : tie.Need-take-all-requires
 take-all-requires c κs =
-    (search needs, omega arith, omega (arith, length-take (c .before .before .before .before .least .result) (c .before .before .before .before .before .before .before .before .args .chunk .now)))
+    let cut = c .before .before .before .before in
+    let entry = cut .before .before .before .before in
+    (search needs, omega arith, omega (arith, length-take (cut .least .result) (entry .args .chunk .now)))
 
 same-length : tie.Need-same-length
 same-length c = search needs
@@ -31,10 +32,15 @@ same-length-2 c = search needs
 
 returns : tie.Need-returns
 returns c =
-    let chunk : take (c .before .before .before .before .before .before .before .before .before .least .result) (c .before .before .before .before .before .before .before .before .before .before .before .before .before .args .chunk .now) ≡ take (c .before .before .before .before .before .before .before .before .before .before .before .before .before .args .n) (c .before .before .before .before .before .before .before .before .before .before .before .before .before .args .chunk .now) = take-least (c .before .before .before .before .before .before .before .before .before .before .before .before .before .args .chunk .now) (c .before .before .before .before .before .before .before .before .before .before .before .before .before .args .n) (c .before .before .before .before .before .before .before .before .before .least .result) (c .before .before .before .before .before .before .before .before .before .least .ensures) in
-    let held : take (c .before .before .before .before .before .before .before .before .least2 .result) (c .before .before .before .before .before .before .before .before .before .before .before .before .before .args .line .now) ≡ take (c .before .before .before .before .before .before .before .before .before .before .before .before .before .args .s .held) (c .before .before .before .before .before .before .before .before .before .before .before .before .before .args .line .now) =
-    take-least (c .before .before .before .before .before .before .before .before .before .before .before .before .before .args .line .now) (c .before .before .before .before .before .before .before .before .before .before .before .before .before .args .s .held) (c .before .before .before .before .before .before .before .before .least2 .result) (c .before .before .before .before .before .before .before .before .least2 .ensures ∙ ap (min (c .before .before .before .before .before .before .before .before .before .before .before .before .before .args .s .held)) (sym (c .before .before .before .before .before .before .before .before .before .before .before .before .before .pre .0))) in
-    (rw (chunk, held) at (c .before .before .before .before .take-all .ensures .0), rw (chunk, held) at (c .before .before .before .before .take-all .ensures .1), rw (chunk, held) at (c .before .before .before .before .take-all .ensures .2))
+    let taken = c .before .before .before .before in
+    let capped = taken .before .before .before .before in
+    let cut = capped .before in
+    let entry = cut .before .before .before .before in
+    let args = entry .args in
+    let chunk : take (cut .least .result) (args .chunk .now) ≡ take (args .n) (args .chunk .now) = take-least (args .chunk .now) (args .n) (cut .least .result) (cut .least .ensures) in
+    let held : take (capped .least2 .result) (args .line .now) ≡ take (args .s .held) (args .line .now) =
+    take-least (args .line .now) (args .s .held) (capped .least2 .result) (capped .least2 .ensures ∙ ap (min (args .s .held)) (sym (entry .pre .0))) in
+    (taken .take-all .ensures .0, rw (chunk, held) at (taken .take-all .ensures .1), rw (chunk, held) at (taken .take-all .ensures .2), rw (chunk, held) at (taken .take-all .ensures .3))
 
 pub take-first-spec : {M : Type 1} → statement M
 take-first-spec =

@@ -17,9 +17,10 @@ least-requires c κs = search needs
 
 returns : tie.Need-returns
 returns c =
-    let s : Session = sessionOf (c .before .before .before .before .args .s) (c .before .before .before .before .args .line .now) in
-    let none = no-last s (omega (arith, length-take (c .before .before .before .before .args .s .held) (c .before .before .before .before .args .line .now))) in
-    (omega (arith, ap length none), sym (ap (sets (c .before .before .before .before .args .out .now) 0) none))
+    let args = c .before .before .before .before .args in
+    let s : Session = sessionOf (args .s) (args .line .now) in
+    let none = no-last s (omega (arith, length-take (args .s .held) (args .line .now))) in
+    (omega arith, omega (arith, ap length none), sym (ap (sets (args .out .now) 0) none))
 
 slice-aggregate-run-line : tie.Need-slice-aggregate-run-line
 slice-aggregate-run-line c = sym (length-take-le _ _ (omega arith))
@@ -32,10 +33,13 @@ same-length c = search needs
 
 returns-2 : tie.Need-returns-2
 returns-2 c =
-    let s : Session = sessionOf (c .before .before .before .before .before .before .before .before .before .args .s) (c .before .before .before .before .before .before .before .before .before .args .line .now) in
-    let held : take (c .before .before .before .before .before .before .least .result) (c .before .before .before .before .before .before .before .before .before .args .line .now) ≡ s .held = take-least (c .before .before .before .before .before .before .before .before .before .args .line .now) (c .before .before .before .before .before .before .before .before .before .args .s .held) (c .before .before .before .before .before .before .least .result) (c .before .before .before .before .before .before .least .ensures) in
-    let text = a-last s (λ e. absurd (omega (arith, e, length-take (c .before .before .before .before .before .before .before .before .before .args .s .held) (c .before .before .before .before .before .before .before .before .before .args .line .now)))) ∙ sym (ap (λ (l : List ℕ). effectOf (s .board) (s .number) l .text) held) in
-    (omega (arith, c .before .before .run-line .ensures .2, ap length text), rw text (c .before .before .run-line .ensures .3))
+    let ran = c .before .before in
+    let cut = ran .before .before .before .before in
+    let args = cut .before .before .before .args in
+    let s : Session = sessionOf (args .s) (args .line .now) in
+    let held : take (cut .least .result) (args .line .now) ≡ s .held = take-least (args .line .now) (args .s .held) (cut .least .result) (cut .least .ensures) in
+    let text = a-last s (λ e. absurd (omega (arith, e, length-take (args .s .held) (args .line .now)))) ∙ sym (ap (λ (l : List ℕ). effectOf (s .board) (s .number) l .text) held) in
+    (omega arith, omega (arith, ran .run-line .ensures .2, ap length text), rw text (ran .run-line .ensures .3))
 
 pub take-last-spec : {M : Type 1} → statement M
 take-last-spec =

@@ -1,6 +1,6 @@
 -- Either the chunk ends before the line does (before-lf), or its LF is there (after-lf). What is held is what `hold` and `chopped`
 -- leave of it.
-use Prim.Native.Nat.{ℕ, _+_, _≤_, _<_}
+use Prim.Native.Nat.{ℕ, _≤_, _<_}
 use mathlib.Core.List.{List, _++_}
 use mathlib.Core.Path.{_≡_, sym, ap, _∙_}
 use native.Mathlib.Omega.{arith}
@@ -34,16 +34,22 @@ same-length c = search needs
 
 returns : tie.Need-returns
 returns c =
-    let s : Session = sessionOf (c .before .before .before .before .before .before .before .before .before .before .before .args .s) (c .before .before .before .before .before .before .before .before .before .before .before .args .line .now) in
-    let few : length (s .held) ≤ heldBytes = omega (arith, length-take (c .before .before .before .before .before .before .before .before .before .before .before .args .s .held) (c .before .before .before .before .before .before .before .before .before .before .before .args .line .now)) in
-    let inside : c .before .before .before .before .before .before .before .before .before .before .before .args .s .took ≤ length (c .before .before .before .before .before .before .before .before .before .before .before .args .chunk .now) = omega arith in
-    let held : take (c .before .before .before .before .hold .result) (c .before .before .before .before .hold .last .0) ≡ take heldBytes (s .held ++ part (c .before .before .before .before .before .before .before .before .before .before .before .args .s .took) (c .before .before .before .before .before .before .before .find .result) (c .before .before .before .before .before .before .before .before .before .before .before .args .chunk .now)) =
-    c .before .before .before .before .hold .ensures .1 ∙ ap (λ (n : ℕ). take n (s .held ++ part (c .before .before .before .before .before .before .before .before .before .before .before .args .s .took) (c .before .before .before .before .before .before .before .find .result) (c .before .before .before .before .before .before .before .before .before .before .before .args .chunk .now))) (c .before .before .before .before .before .before .before .before .before .before .before .pre .1) in
-    let text = before-lf-text s (c .before .before .before .before .before .before .before .before .before .before .before .args .chunk .now) (c .before .before .before .before .before .before .before .before .before .before .before .args .s .took) (c .before .before .before .before .before .before .before .find .result) few inside (c .before .before .before .before .before .before .before .find .ensures .0) in (
+    let held = c .before .before .before .before in
+    let found = held .before .before .before in
+    let entry = found .before .before .before .before in
+    let s : Session = sessionOf (entry .args .s) (entry .args .line .now) in
+    let i : ℕ = entry .args .s .took in
+    let e : ℕ = found .find .result in
+    let chunk : List ℕ = entry .args .chunk .now in
+    let few : length (s .held) ≤ heldBytes = omega (arith, length-take (entry .args .s .held) (entry .args .line .now)) in
+    let inside : i ≤ length chunk = omega arith in
+    let kept : take (held .hold .result) (held .hold .last .0) ≡ take heldBytes (s .held ++ part i e chunk) =
+    held .hold .ensures .1 ∙ ap (λ (n : ℕ). take n (s .held ++ part i e chunk)) (entry .pre .1) in
+    let text = before-lf-text s chunk i e few inside (found .find .ensures .0) in (
       (omega arith, omega arith, omega arith, omega arith),
       (
-        ap (λ (l : List ℕ). record { held = l; board = s .board; number = s .number }) held ∙ sym (before-lf s (c .before .before .before .before .before .before .before .before .before .before .before .args .chunk .now) (c .before .before .before .before .before .before .before .before .before .before .before .args .s .took) (c .before .before .before .before .before .before .before .find .result) few inside (c .before .before .before .before .before .before .before .find .ensures .0)),
-        (omega (arith, ap length text), sym (ap (sets (c .before .before .before .before .before .before .before .before .before .before .before .args .out .now) (c .before .before .before .before .before .before .before .before .before .before .before .args .s .wrote)) text)),
+        ap (λ (l : List ℕ). record { held = l; board = s .board; number = s .number }) kept ∙ sym (before-lf s chunk i e few inside (found .find .ensures .0)),
+        (omega (arith, ap length text), sym (ap (sets (entry .args .out .now) (entry .args .s .wrote)) text)),
       ),
     )
 
@@ -63,8 +69,7 @@ next-number-requires : tie.Need-next-number-requires
 next-number-requires c κs = search needs
 
 add-t12 : tie.Need-add-t12
-add-t12 c =
-    record { fits = omega (arith, c .before .before .before .before .before .before .before .before .before .before .before .before .before .before .before .before .before .before .before .good .1 .1 .0) }
+add-t12 c = record { fits = omega (arith, c .before .before .before .before .before .before .before .before .before .before .before .before .before .before .before .before .before .before .before .good .1 .1 .0) }
 
 same-length-2 : tie.Need-same-length-2
 same-length-2 c = search needs
@@ -74,18 +79,26 @@ same-length-3 c = search needs
 
 returns-2 : tie.Need-returns-2
 returns-2 c =
-    let s : Session = sessionOf (c .before .before .before .before .before .before .before .before .before .before .before .before .before .before .before .before .before .before .before .args .s) (c .before .before .before .before .before .before .before .before .before .before .before .before .before .before .before .before .before .before .before .args .line .now) in
-    let few : length (s .held) ≤ heldBytes = omega (arith, length-take (c .before .before .before .before .before .before .before .before .before .before .before .before .before .before .before .before .before .before .before .args .s .held) (c .before .before .before .before .before .before .before .before .before .before .before .before .before .before .before .before .before .before .before .args .line .now)) in
-    let inside : c .before .before .before .before .before .before .before .before .before .before .before .before .before .before .before .before .before .before .before .args .s .took ≤ length (c .before .before .before .before .before .before .before .before .before .before .before .before .before .before .before .before .before .before .before .args .chunk .now) = omega arith in
-    let held : take (c .before .before .before .before .before .before .before .before .before .before .before .before .hold .result) (c .before .before .before .before .before .before .before .before .before .before .before .before .hold .last .0) ≡ take heldBytes (s .held ++ part (c .before .before .before .before .before .before .before .before .before .before .before .before .before .before .before .before .before .before .before .args .s .took) (c .before .before .before .before .before .before .before .before .before .before .before .before .before .before .before .find .result) (c .before .before .before .before .before .before .before .before .before .before .before .before .before .before .before .before .before .before .before .args .chunk .now)) =
-    c .before .before .before .before .before .before .before .before .before .before .before .before .hold .ensures .1 ∙ ap (λ (n : ℕ). take n (s .held ++ part (c .before .before .before .before .before .before .before .before .before .before .before .before .before .before .before .before .before .before .before .args .s .took) (c .before .before .before .before .before .before .before .before .before .before .before .before .before .before .before .find .result) (c .before .before .before .before .before .before .before .before .before .before .before .before .before .before .before .before .before .before .before .args .chunk .now))) (c .before .before .before .before .before .before .before .before .before .before .before .before .before .before .before .before .before .before .before .pre .1) in
-    let more : c .before .before .before .before .before .before .before .before .before .before .before .before .before .before .before .find .result < length (c .before .before .before .before .before .before .before .before .before .before .before .before .before .before .before .before .before .before .before .args .chunk .now) = omega arith in
-    let line : take (c .before .before .before .before .before .before .before .chopped .result) (c .before .before .before .before .before .before .before .before .before .before .before .before .hold .last .0) ≡ chop (take heldBytes (s .held ++ part (c .before .before .before .before .before .before .before .before .before .before .before .before .before .before .before .before .before .before .before .args .s .took) (c .before .before .before .before .before .before .before .before .before .before .before .before .before .before .before .find .result) (c .before .before .before .before .before .before .before .before .before .before .before .before .before .before .before .before .before .before .before .args .chunk .now))) = c .before .before .before .before .before .before .before .chopped .ensures .1 ∙ ap chop held in
-    let text = after-lf-text s (c .before .before .before .before .before .before .before .before .before .before .before .before .before .before .before .before .before .before .before .args .chunk .now) (c .before .before .before .before .before .before .before .before .before .before .before .before .before .before .before .before .before .before .before .args .s .took) (c .before .before .before .before .before .before .before .before .before .before .before .before .before .before .before .find .result) few inside (c .before .before .before .before .before .before .before .before .before .before .before .before .before .before .before .find .ensures .0) more ∙ sym (ap (λ (l : List ℕ). effectOf (s .board) (s .number) l .text) line) in (
-      (omega arith, omega arith, omega arith, c .before .before .before .before .run-line .ensures .0),
+    let ran = c .before .before .before .before in
+    let cut = ran .before .before .before in
+    let held = cut .before .before .before .before .before in
+    let found = held .before .before .before in
+    let entry = found .before .before .before .before in
+    let s : Session = sessionOf (entry .args .s) (entry .args .line .now) in
+    let i : ℕ = entry .args .s .took in
+    let e : ℕ = found .find .result in
+    let chunk : List ℕ = entry .args .chunk .now in
+    let few : length (s .held) ≤ heldBytes = omega (arith, length-take (entry .args .s .held) (entry .args .line .now)) in
+    let inside : i ≤ length chunk = omega arith in
+    let kept : take (held .hold .result) (held .hold .last .0) ≡ take heldBytes (s .held ++ part i e chunk) =
+    held .hold .ensures .1 ∙ ap (λ (n : ℕ). take n (s .held ++ part i e chunk)) (entry .pre .1) in
+    let more : e < length chunk = omega arith in
+    let line : take (cut .chopped .result) (held .hold .last .0) ≡ chop (take heldBytes (s .held ++ part i e chunk)) = cut .chopped .ensures .1 ∙ ap chop kept in
+    let text = after-lf-text s chunk i e few inside (found .find .ensures .0) more ∙ sym (ap (λ (l : List ℕ). effectOf (s .board) (s .number) l .text) line) in (
+      (omega arith, omega arith, omega arith, ran .run-line .ensures .0),
       (
-        rw (c .before .before .before .before .run-line .ensures .1, c .next-number .ensures, line) (sym (after-lf s (c .before .before .before .before .before .before .before .before .before .before .before .before .before .before .before .before .before .before .before .args .chunk .now) (c .before .before .before .before .before .before .before .before .before .before .before .before .before .before .before .before .before .before .before .args .s .took) (c .before .before .before .before .before .before .before .before .before .before .before .before .before .before .before .find .result) few inside (c .before .before .before .before .before .before .before .before .before .before .before .before .before .before .before .find .ensures .0) more)),
-        (rw text (c .before .before .before .before .run-line .ensures .2), rw text (c .before .before .before .before .run-line .ensures .3)),
+        rw (ran .run-line .ensures .1, c .next-number .ensures, line) (sym (after-lf s chunk i e few inside (found .find .ensures .0) more)),
+        (rw text (ran .run-line .ensures .2), rw text (ran .run-line .ensures .3)),
       ),
     )
 

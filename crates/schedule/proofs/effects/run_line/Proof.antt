@@ -1,7 +1,4 @@
 -- The answer, its row and the board after it, each by the definition.
-use mathlib.Core.Path.{ap, _∙_}
-use lib.ListN.{length}
-use lib.Seq.{length-sets}
 use Rattle.schedule.specs.Schedule.{effectOf}
 use borrow.Author.Needs.{needs}
 use Rattle.schedule.proofs.effects.run_line.Statement.{statement}
@@ -24,7 +21,15 @@ same-length c = search needs
 
 returns : tie.Need-returns
 unfolding effectOf
-returns c = (c .before .before .before .put-line .ensures .0, rw (c .board-after .ensures, c .before .before .before .before .before .before .answer-to .ensures), rw (c .before .before .before .before .row-of .ensures, c .before .before .before .before .before .before .answer-to .ensures) at (c .before .before .before .put-line .ensures .1), rw (c .before .before .before .before .row-of .ensures, c .before .before .before .before .before .before .answer-to .ensures) at (c .before .before .before .put-line .ensures .2))
+returns c =
+    let put = c .before .before .before in
+    let row = put .before in
+    let answered = row .before .before in (
+      put .put-line .ensures .0,
+      rw (c .board-after .ensures, answered .answer-to .ensures),
+      rw (row .row-of .ensures, answered .answer-to .ensures) at (put .put-line .ensures .1),
+      rw (row .row-of .ensures, answered .answer-to .ensures) at (put .put-line .ensures .2),
+    )
 
 pub run-line-spec : {M : Type 1} → statement M
 run-line-spec =
