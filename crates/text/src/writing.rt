@@ -40,7 +40,7 @@ fn put_number(out: &mut [u8], at: usize, n: u64) -> usize
 }
 
 // The number n and the byte that ends its field.
-pub fn put_field(out: &mut [u8], at: usize, n: u64, end: u8) -> usize
+fn put_field(out: &mut [u8], at: usize, n: u64, end: u8) -> usize
     requires { ⌜ at + length (fieldText n end) ≤ length (now out) ⌝ }
     ensures { λ r. ⌜ (r ≡ at + length (fieldText n end)) × (now (out .exit) ≡ sets (now (out .entry)) at (fieldText n end)) ⌝ }
 {
