@@ -7,8 +7,8 @@ use native.Mathlib.Nat.{min-eq-left}
 use native.Mathlib.Omega.{arith}
 use borrow.Author.Tests.{eqb-true, leb-true, leb-false}
 use lib.Dec.{eqb, leb}
-use lib.ListN.{length, take, drop, getD, length-take, length-drop}
-use lib.Seq.{take-all, take-length, take-suc, take-add}
+use lib.ListN.{length, take, drop, getD, length-take, length-drop, length-append}
+use lib.Seq.{take-all, take-length, take-suc, take-add, sets}
 use Rattle.board.specs.declared.Board.{Board}
 use Rattle.board.specs.Answers.{guarded}
 use Rattle.board.specs.Boards.{freshBoard}
@@ -17,8 +17,10 @@ use Rattle.checks.specs.Clauses.{nodesAllowed, consolesAllowed}
 use Rattle.bytes.specs.Bytes.{indexOf, indexAfter, slice}
 use Rattle.lines.specs.Lines.{lfByte}
 use Rattle.split.specs.Split.{chop, heldBytes}
+use Rattle.text.proofs.WritesLaws.{sets-sets}
+use Rattle.schedule.specs.declared.Rack.{Rack}
 use Rattle.schedule.specs.Schedule.{effectOf, nextNumber}
-use Rattle.schedule.specs.Chunks.{Session, afterByte, textAt, afterBytes, textOf, textAtEnd, lastText, part}
+use Rattle.schedule.specs.Chunks.{Session, afterByte, textAt, afterBytes, textOf, textAtEnd, lastText, sessionOf, part, Taken}
 use Rattle.schedule.proofs.Whole.{take-again, byte-after, byte-text, lf-after, lf-text, after-append, text-append}
 
 -- ---- the bytes before the first LF
@@ -121,19 +123,44 @@ module _ (s : Session) (chunk : List ℕ) (i e : ℕ) (few : length (s .held) �
 -- ---- a chunk, line by line
 
 module _ (s : Session) (chunk : List ℕ) (i j : ℕ) (le : i ≤ j) where
-  taken-more : take i chunk ++ part i j chunk ≡ take j chunk
-  taken-more =
+  parts-join : take i chunk ++ part i j chunk ≡ take j chunk
+  parts-join =
       let n : i + (j - i) ≡ j = omega arith in
       sym (take-add i (j - i) chunk) ∙ ap (λ (k : ℕ). take k chunk) n
 
-  pub after-more : (z : Session) → z ≡ afterBytes s (take i chunk) → afterBytes z (part i j chunk) ≡ afterBytes s (take j chunk)
-  after-more z e = ap (λ (y : Session). afterBytes y (part i j chunk)) e ∙ sym (after-append s (take i chunk) (part i j chunk)) ∙ ap (afterBytes s) taken-more
+  after-more : (z : Session) → z ≡ afterBytes s (take i chunk) → afterBytes z (part i j chunk) ≡ afterBytes s (take j chunk)
+  after-more z e = ap (λ (y : Session). afterBytes y (part i j chunk)) e ∙ sym (after-append s (take i chunk) (part i j chunk)) ∙ ap (afterBytes s) parts-join
 
-  pub text-more : (z : Session) → z ≡ afterBytes s (take i chunk) → textOf s (take i chunk) ++ textOf z (part i j chunk) ≡ textOf s (take j chunk)
+  text-more : (z : Session) → z ≡ afterBytes s (take i chunk) → textOf s (take i chunk) ++ textOf z (part i j chunk) ≡ textOf s (take j chunk)
   text-more z e =
       ap (λ (y : Session). textOf s (take i chunk) ++ textOf y (part i j chunk)) e
       ∙ sym (text-append s (take i chunk) (part i j chunk))
-      ∙ ap (textOf s) taken-more
+      ∙ ap (textOf s) parts-join
+
+-- the bytes up to i taken, and then those up to j
+pub taken-more : (s : Rack) (line out chunk : List ℕ) (i j : ℕ) → i ≤ j → (x y : Rack) (line' out' line'' out'' : List ℕ)
+    → Taken 0 s line out (take i chunk) x line' out' → Taken (x .wrote) x line' out' (part i j chunk) y line'' out'' → Taken 0 s line out (take j chunk) y line'' out''
+taken-more s line out chunk i j le x y line' out' line'' out'' t u =
+    let first : List ℕ = textOf (sessionOf s line) (take i chunk) in
+    let then : List ℕ = textOf (sessionOf x line') (part i j chunk) in
+    let both = text-more (sessionOf s line) chunk i j le (sessionOf x line') (t .session) in
+    record {
+      session = u .session ∙ after-more (sessionOf s line) chunk i j le (sessionOf x line') (t .session);
+      written = u .written ∙ ap (λ (o : List ℕ). sets o (x .wrote) then) (t .written) ∙ sets-sets out 0 (x .wrote) first then (t .wrote) ∙ ap (sets out 0) both;
+      wrote = omega (arith, u .wrote, t .wrote, ap length both, length-append first then);
+      room = u .room;
+    }
+
+-- by another name for the rack and for the bytes
+pub taken-as : (s t : Rack) (line out c d : List ℕ) (r : Rack) (line' out' : List ℕ) → sessionOf t line ≡ sessionOf s line → c ≡ d → Taken 0 t line out c r line' out' → Taken 0 s line out d r line' out'
+taken-as s t line out c d r line' out' e f u =
+    let text = ap (λ (z : Session). textOf z c) e ∙ ap (textOf (sessionOf s line)) f in
+    record {
+      session = u .session ∙ ap (λ (z : Session). afterBytes z c) e ∙ ap (afterBytes (sessionOf s line)) f;
+      written = u .written ∙ ap (sets out 0) text;
+      wrote = omega (arith, u .wrote, ap length text);
+      room = u .room;
+    }
 
 -- ---- no more than there are
 

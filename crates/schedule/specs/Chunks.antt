@@ -1,10 +1,12 @@
 -- A run over an input that comes in chunks: where it stands between two bytes, and what it writes at each. The theorem `whole` says
 -- that it writes the output for the whole input, wherever the chunks end.
-use Prim.Native.Nat.{ℕ, _-_}
+use Prim.Native.Nat.{ℕ, _+_, _-_, _≤_}
 use mathlib.Core.Bool.{cond}
 use mathlib.Core.List.{List, [], _∷_, _++_}
+use mathlib.Core.Path.{_≡_}
 use lib.Dec.{eqb}
-use lib.ListN.{take, drop}
+use lib.ListN.{length, take, drop}
+use lib.Seq.{sets}
 use Rattle.board.specs.declared.Board.{Board}
 use Rattle.board.specs.Boards.{freshBoard}
 use Rattle.board.specs.Steps.{smallest}
@@ -80,3 +82,11 @@ startRack = record { board = atStart .board; number = atStart .number; held = 0;
 -- the bytes of a chunk from place i up to place j
 abbrev pub part : ℕ → ℕ → List ℕ → List ℕ
 part i j chunk = take (j - i) (drop i chunk)
+
+-- the run s has taken these bytes: where it stands after them as r, and what it has written into the output from place p on. The line that holds
+-- what is held was line, and is line'; the output was out, and is out'
+pub record Taken (p : ℕ) (s : Rack) (line out bytes : List ℕ) (r : Rack) (line' out' : List ℕ) : Type 0 where
+  pub session : sessionOf r line' ≡ afterBytes (sessionOf s line) bytes
+  pub written : out' ≡ sets out p (textOf (sessionOf s line) bytes)
+  pub wrote : r .wrote ≡ p + length (textOf (sessionOf s line) bytes)
+  pub room : r .wrote ≤ length out'

@@ -1,11 +1,11 @@
 // A run over an input in chunks. Each chunk, the bytes held of a line and the output stand in lent memory.
 ghost use mathlib.Core.Path.{_≡_};
-ghost use Prim.Native.Nat.{_+_, _*_, _-_, _<_, _≤_};
+ghost use Prim.Native.Nat.{_+_, _*_, _<_, _≤_};
 ghost use lib.ListN.{length, take};
 ghost use lib.Seq.{sets};
 ghost use Rattle.split.specs.Split.{heldBytes};
 ghost use Rattle.text.specs.Text.{lineBytes};
-ghost use Rattle.schedule.specs.Chunks.{startRack, sessionOf, part, afterBytes, textOf, lastText};
+ghost use Rattle.schedule.specs.Chunks.{startRack, sessionOf, part, lastText, Taken};
 use crate::Rack;
 use crate::effects::next_number;
 use crate::effects::run_line;
@@ -22,8 +22,7 @@ use text::LINE_BYTES;
 fn take_line(s: Rack, line: &mut [u8], chunk: &[u8], out: &mut [u8]) -> Rack
     requires { ⌜ (s .took < length (now chunk)) × (length (now line) ≡ heldBytes) × (s .held ≤ heldBytes) × (s .wrote + lineBytes ≤ length (now out)) ⌝ }
     ensures { λ r. ⌜ (s .took < r .took) × (r .took ≤ length (now (chunk .entry))) × (r .held ≤ heldBytes) × (r .wrote ≤ s .wrote + lineBytes) ⌝ }
-    ensures { λ r. ⌜ sessionOf r (now (line .exit)) ≡ afterBytes (sessionOf s (now (line .entry))) (part (s .took) (r .took) (now (chunk .entry))) ⌝ }
-    ensures { λ r. ⌜ (r .wrote ≡ s .wrote + length (textOf (sessionOf s (now (line .entry))) (part (s .took) (r .took) (now (chunk .entry))))) × (now (out .exit) ≡ sets (now (out .entry)) (s .wrote) (textOf (sessionOf s (now (line .entry))) (part (s .took) (r .took) (now (chunk .entry))))) ⌝ }
+    ensures { λ r. ⌜ Taken (s .wrote) s (now (line .entry)) (now (out .entry)) (part (s .took) (r .took) (now (chunk .entry))) r (now (line .exit)) (now (out .exit)) ⌝ }
 {
     let at = s.took;
     let e = find(chunk, at, chunk.len(), b'\n');
@@ -54,7 +53,7 @@ fn take_line(s: Rack, line: &mut [u8], chunk: &[u8], out: &mut [u8]) -> Rack
 // byte.
 fn take_all(s: Rack, line: &mut [u8], chunk: &[u8], out: &mut [u8]) -> Rack
     requires { ⌜ (length (now line) ≡ heldBytes) × (s .held ≤ heldBytes) × (length (now chunk) * lineBytes ≤ length (now out)) ⌝ }
-    ensures { λ r. ⌜ (r .wrote ≤ length (now (out .exit))) × (sessionOf r (now (line .exit)) ≡ afterBytes (sessionOf s (now (line .entry))) (now (chunk .entry))) × (r .wrote ≡ length (textOf (sessionOf s (now (line .entry))) (now (chunk .entry)))) × (now (out .exit) ≡ sets (now (out .entry)) 0 (textOf (sessionOf s (now (line .entry))) (now (chunk .entry)))) ⌝ }
+    ensures { λ r. ⌜ Taken 0 s (now (line .entry)) (now (out .entry)) (now (chunk .entry)) r (now (line .exit)) (now (out .exit)) ⌝ }
 {
     let b = s.board;
     let mut r = Rack {
@@ -73,7 +72,7 @@ fn take_all(s: Rack, line: &mut [u8], chunk: &[u8], out: &mut [u8]) -> Rack
 // Takes the first n bytes of the chunk, all if there are fewer. The caller has seen to the lengths as for take_all.
 fn take_first(s: Rack, line: &mut [u8], chunk: &[u8], n: usize, out: &mut [u8]) -> Rack
     requires { ⌜ (length (now line) ≡ heldBytes) × (length (now chunk) * lineBytes ≤ length (now out)) ⌝ }
-    ensures { λ r. ⌜ (r .wrote ≤ length (now (out .exit))) × (sessionOf r (now (line .exit)) ≡ afterBytes (sessionOf s (now (line .entry))) (take n (now (chunk .entry)))) × (r .wrote ≡ length (textOf (sessionOf s (now (line .entry))) (take n (now (chunk .entry))))) × (now (out .exit) ≡ sets (now (out .entry)) 0 (textOf (sessionOf s (now (line .entry))) (take n (now (chunk .entry))))) ⌝ }
+    ensures { λ r. ⌜ Taken 0 s (now (line .entry)) (now (out .entry)) (take n (now (chunk .entry))) r (now (line .exit)) (now (out .exit)) ⌝ }
 {
     let k = least(n, chunk.len());
     let mut t = s;
@@ -122,7 +121,7 @@ pub fn run_chunk(
     n: usize,
     out: &mut [u8; OUT_BYTES],
 ) -> Rack
-    ensures { λ r. ⌜ (r .wrote ≤ length (now (out .exit))) × (sessionOf r (now (line .exit)) ≡ afterBytes (sessionOf s (now (line .entry))) (take n (now (chunk .entry)))) × (r .wrote ≡ length (textOf (sessionOf s (now (line .entry))) (take n (now (chunk .entry))))) × (now (out .exit) ≡ sets (now (out .entry)) 0 (textOf (sessionOf s (now (line .entry))) (take n (now (chunk .entry))))) ⌝ }
+    ensures { λ r. ⌜ Taken 0 s (now (line .entry)) (now (out .entry)) (take n (now (chunk .entry))) r (now (line .exit)) (now (out .exit)) ⌝ }
 {
     take_first(s, line, chunk, n, out)
 }

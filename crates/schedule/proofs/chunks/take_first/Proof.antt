@@ -1,10 +1,11 @@
 -- What there is of the held bytes and of the chunk is what take_all gets (take-least).
-use Prim.Native.Nat.{min}
+use Prim.Native.Nat.{ℕ, min}
+use mathlib.Core.List.{List}
 use mathlib.Core.Path.{_≡_, sym, ap, _∙_}
 use native.Mathlib.Omega.{arith}
 use lib.ListN.{take, length-take}
 use lib.Seq.{length-take-le}
-use Rattle.schedule.proofs.ChunksLaws.{take-least}
+use Rattle.schedule.proofs.ChunksLaws.{take-least, taken-as}
 use borrow.Author.Needs.{needs}
 use Rattle.schedule.proofs.chunks.take_first.Statement.{statement}
 use Rattle.schedule.proofs.chunks.take_first.Tie as tie
@@ -40,7 +41,7 @@ returns c =
     let chunk : take (cut .least .result) (args .chunk .now) ≡ take (args .n) (args .chunk .now) = take-least (args .chunk .now) (args .n) (cut .least .result) (cut .least .ensures) in
     let held : take (capped .least2 .result) (args .line .now) ≡ take (args .s .held) (args .line .now) =
     take-least (args .line .now) (args .s .held) (capped .least2 .result) (capped .least2 .ensures ∙ ap (min (args .s .held)) (sym (entry .pre .0))) in
-    (taken .take-all .ensures .0, rw (chunk, held) at (taken .take-all .ensures .1), rw (chunk, held) at (taken .take-all .ensures .2), rw (chunk, held) at (taken .take-all .ensures .3))
+    taken-as _ _ _ _ _ _ _ _ _ (ap (λ (l : List ℕ). record { held = l; board = args .s .board; number = args .s .number }) held) chunk (taken .take-all .ensures)
 
 pub take-first-spec : {M : Type 1} → statement M
 take-first-spec =

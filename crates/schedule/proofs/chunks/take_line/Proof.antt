@@ -47,10 +47,12 @@ returns c =
     held .hold .ensures .1 ∙ ap (λ (n : ℕ). take n (s .held ++ part i e chunk)) (entry .pre .1) in
     let text = before-lf-text s chunk i e few inside (found .find .ensures .0) in (
       (omega arith, omega arith, omega arith, omega arith),
-      (
-        ap (λ (l : List ℕ). record { held = l; board = s .board; number = s .number }) kept ∙ sym (before-lf s chunk i e few inside (found .find .ensures .0)),
-        (omega (arith, ap length text), sym (ap (sets (entry .args .out .now) (entry .args .s .wrote)) text)),
-      ),
+      record {
+        session = ap (λ (l : List ℕ). record { held = l; board = s .board; number = s .number }) kept ∙ sym (before-lf s chunk i e few inside (found .find .ensures .0));
+        written = sym (ap (sets (entry .args .out .now) (entry .args .s .wrote)) text);
+        wrote = omega (arith, ap length text);
+        room = omega arith;
+      },
     )
 
 chopped-requires : tie.Need-chopped-requires
@@ -96,10 +98,12 @@ returns-2 c =
     let line : take (cut .chopped .result) (held .hold .last .0) ≡ chop (take heldBytes (s .held ++ part i e chunk)) = cut .chopped .ensures .1 ∙ ap chop kept in
     let text = after-lf-text s chunk i e few inside (found .find .ensures .0) more ∙ sym (ap (λ (l : List ℕ). effectOf (s .board) (s .number) l .text) line) in (
       (omega arith, omega arith, omega arith, ran .run-line .ensures .0),
-      (
-        rw (ran .run-line .ensures .1, c .next-number .ensures, line) (sym (after-lf s chunk i e few inside (found .find .ensures .0) more)),
-        (rw text (ran .run-line .ensures .2), rw text (ran .run-line .ensures .3)),
-      ),
+      record {
+        session = rw (ran .run-line .ensures .1, c .next-number .ensures, line) (sym (after-lf s chunk i e few inside (found .find .ensures .0) more));
+        written = rw text (ran .run-line .ensures .3);
+        wrote = rw text (ran .run-line .ensures .2);
+        room = omega (arith, ran .run-line .ensures .0);
+      },
     )
 
 pub take-line-spec : {M : Type 1} → statement M
