@@ -47,6 +47,15 @@ from-step t (suc k) h =
     let e : suc k - 1 ≡ k = omega arith in
     rw e
 
+-- from the line's end on there is nothing, whichever field is asked for
+from-nothing : (k : ℕ) → fromField [] k ≡ []
+unfolding fromField indexOf
+from-nothing zero = refl
+from-nothing (suc k) = from-nothing k
+
+pub from-end : (s : List ℕ) (i k : ℕ) → length s ≤ i → drop i s ≡ fromField (drop i s) k
+from-end s i k h = drop-of-length-le s h ∙ sym (ap (λ (t : List ℕ). fromField t k) (drop-of-length-le s h) ∙ from-nothing k)
+
 -- the part from a on
 pub take-rest : (s : List ℕ) (a : ℕ) → take (length s - a) (drop a s) ≡ drop a s
 take-rest s a = take-all (length s - a) (drop a s) (simp length-drop (omega arith))

@@ -37,6 +37,9 @@ fn start_of(line: &[u8], k: usize) -> usize
     let mut i = 0;
     let mut left = k;
     while left > 0 {
+        if i >= line.len() {
+            return i;
+        }
         let n = past_comma(&line[i..]);
         i += n;
         left -= 1;

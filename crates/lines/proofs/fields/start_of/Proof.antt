@@ -1,11 +1,12 @@
--- Invariant: field k of the line is field `left` of what stands from i on. A turn goes past one comma (from-step).
+-- Invariant: field k of the line is field `left` of what stands from i on. A turn goes past one comma
+-- (from-step); at the line's end there is no field further on (from-end).
 use mathlib.Core.Path.{_≡_, refl, sym, _∙_, ap}
 use Prim.Native.Nat.{_-_, _≤_}
 use native.Mathlib.Omega.{arith}
 use borrow.Author.Needs.{needs}
 use lib.ListN.{length, drop}
 use lib.Seq.{drop-drop}
-use Rattle.lines.proofs.LinesLaws.{from-step, take-rest, length-rest}
+use Rattle.lines.proofs.LinesLaws.{from-step, from-end, take-rest, length-rest}
 use Rattle.lines.specs.Lines.{fromField}
 use Rattle.lines.proofs.fields.start_of.Statement.{statement}
 use Rattle.lines.proofs.fields.start_of.Tie as tie
@@ -18,6 +19,9 @@ abbrev μ-loop : tie.MeasureT-loop
 
 loop-holds : tie.Need-loop-holds Inv-loop μ-loop
 loop-holds c = (search needs, refl)
+
+returns : tie.Need-returns Inv-loop μ-loop
+returns c = (from-end _ _ _ (c .if1 .taken) ∙ sym (c .before .before .loop .inv .1), c .before .before .loop .inv .0)
 
 sub-past-comma : tie.Need-sub-past-comma Inv-loop μ-loop
 sub-past-comma c = search needs
@@ -32,7 +36,7 @@ past-comma-requires : tie.Need-past-comma-requires Inv-loop μ-loop
 past-comma-requires c κs = search needs
 
 add-i : tie.Need-add-i Inv-loop μ-loop
-add-i c = omega (arith, length-rest (c .before .before .before .before .before .args .line .now) (c .before .before .before .loop .i))
+add-i c = omega (arith, length-rest (c .before .before .before .before .before .before .args .line .now) (c .before .before .before .before .loop .i))
 
 sub-left : tie.Need-sub-left Inv-loop μ-loop
 sub-left c = search needs
@@ -42,18 +46,18 @@ loop-less c = search needs
 
 loop-again : tie.Need-loop-again Inv-loop μ-loop
 loop-again c =
-    let line = c .before .before .before .before .before .args .line .now in
-    let i = c .before .before .before .loop .i in
-    let left = c .before .before .before .loop .left in (
+    let line = c .before .before .before .before .before .before .args .line .now in
+    let i = c .before .before .before .before .loop .i in
+    let left = c .before .before .before .before .loop .left in (
       omega (arith, length-rest line i),
-      c .before .before .before .loop .inv .1
-          ∙ from-step _ _ (omega (arith, c .before .before .loop-test .taken))
+      c .before .before .before .before .loop .inv .1
+          ∙ from-step _ _ (omega (arith, c .before .before .before .loop-test .taken))
           ∙ ap (λ z. fromField z (left - 1)) (sym (rw take-rest at (c .past-comma .ensures .0)) ∙ drop-drop (c .past-comma .result) i line),
     )
 
-returns : tie.Need-returns Inv-loop μ-loop
+returns-2 : tie.Need-returns-2 Inv-loop μ-loop
 unfolding fromField
-returns c =
+returns-2 c =
     let e : c .before .loop .left ≡ 0 = omega arith in
     (sym (rw e at (c .before .loop .inv .1)), c .before .loop .inv .0)
 
@@ -64,6 +68,7 @@ start-of-spec =
     Inv-loop
     μ-loop
     loop-holds
+    returns
     sub-past-comma
     part-past-comma-start
     part-past-comma-end
@@ -72,4 +77,4 @@ start-of-spec =
     sub-left
     loop-less
     loop-again
-    returns)
+    returns-2)
