@@ -1,5 +1,6 @@
--- P1 to P10 as one theorem, by computation: what each run of the list shows is what it must show.
-use mathlib.Core.List.{map}
+-- P1 to P10 as one theorem, by computation: what each run of the list shows is what it must show. Then the same of the runs of
+-- node up.
+use mathlib.Core.List.{List, map}
 use mathlib.Core.Path.{_≡_, refl}
 use Rattle.parts.specs.Finite.{every, count}
 use Rattle.parts.specs.Tags.{greater}
@@ -11,11 +12,21 @@ use Rattle.changes.specs.Changes.{withUp, taken, rests, asks, awaits, hears, ne
 use Rattle.board.specs.Boards.{nodeAt, consoleAt, frameAt, withNode, withConsole, withFrame, withRow, freshBoard}
 use Rattle.board.specs.WellFormed.{wellFormed}
 use Rattle.board.specs.Answers.{guarded}
-use Rattle.board.specs.Steps.{fresh, begun, begin, nodeDown, consoleDown}
+use Rattle.board.specs.Steps.{fresh, begun, begin, nodeDown, nodeUp, consoleDown}
 use Rattle.board.specs.Deliver.{toNode, onAsk, onPut, discards, heard, turned, replied, onReply, acknowledged, onAck, onFrame, deliver}
 use Rattle.board.specs.Runs.{step}
-use Rattle.board.specs.PRuns.{seen, after, allSeen, shows, mustShow, pRuns}
+use Rattle.board.specs.PRuns.{PRun, Seen, seen, after, allSeen, shows, mustShow, pRuns}
+use Rattle.board.specs.UpRuns.{upRuns}
+
+-- what runs show, with every definition opened
+opened : List PRun → List (List Seen)
+unfolding every count greater member insert size onlyBelow majority askSize tellSize nodeIn consoleIn frameIn place setFrame setRow nodesAllowed consolesAllowed setupOk isZero tagOk nodeOk nodesOk restOk wantedOk waitOk stateOk consoleOk consolesOk frameOk cellOk rowOk cellsOk withUp taken rests asks awaits hears nextTag tells acked nodeAt consoleAt frameAt withNode withConsole withFrame withRow freshBoard wellFormed guarded fresh begun begin nodeDown nodeUp consoleDown toNode onAsk onPut discards heard turned replied onReply acknowledged onAck onFrame deliver step seen after allSeen
+opened rs = map shows rs
 
 pub p-runs-hold : map shows pRuns ≡ map mustShow pRuns
-unfolding every count greater member insert size onlyBelow majority askSize tellSize nodeIn consoleIn frameIn place setFrame setRow nodesAllowed consolesAllowed setupOk isZero tagOk nodeOk nodesOk restOk wantedOk waitOk stateOk consoleOk consolesOk frameOk cellOk rowOk cellsOk withUp taken rests asks awaits hears nextTag tells acked nodeAt consoleAt frameAt withNode withConsole withFrame withRow freshBoard wellFormed guarded fresh begun begin nodeDown consoleDown toNode onAsk onPut discards heard turned replied onReply acknowledged onAck onFrame deliver step seen after allSeen pRuns
+unfolding opened pRuns
 p-runs-hold = refl
+
+pub up-runs-hold : map shows upRuns ≡ map mustShow upRuns
+unfolding opened upRuns
+up-runs-hold = refl

@@ -8,3 +8,4 @@ pub mod Deliver
 pub mod InRange
 pub mod Runs
 pub mod PRuns
+pub mod UpRuns

@@ -46,7 +46,7 @@ infix 70 _gives_
 abbrev pub _gives_ : Look → Seen → Line
 l gives s = record { look = l; must = s }
 
--- one of P1 to P10
+-- a run, of P1 to P10 or of a list of another paper
 pub record PRun : Type 0 where
   pub number : ℕ
   pub start : Board
@@ -86,16 +86,16 @@ mustShow r = map (λ (l : Line). l .must) (r .lines)
 
 -- ---- the words of the runs
 
-abbrev tag : ℕ → ℕ → Tag
+abbrev pub tag : ℕ → ℕ → Tag
 tag t c = record { ts = t; console = c }
 
-abbrev refused : ℕ → Seen
+abbrev pub refused : ℕ → Seen
 refused r = Said 0 r zeroTag 0
 
-abbrev done : Seen
+abbrev pub done : Seen
 done = Said 1 0 zeroTag 0
 
-abbrev handed : Seen
+abbrev pub handed : Seen
 handed = Said 2 0 zeroTag 0
 
 abbrev heard : Seen
@@ -113,17 +113,17 @@ read c = Take (BeginRead c)
 abbrev write : ℕ → ℕ → Look
 write c v = Take (BeginWrite c v)
 
-abbrev deliver : ℕ → ℕ → Look
+abbrev pub deliver : ℕ → ℕ → Look
 deliver c k = Take (Deliver c k)
 
-abbrev nodeDown : ℕ → Look
+abbrev pub nodeDown : ℕ → Look
 nodeDown k = Take (NodeDown k)
 
 abbrev ofSize : ℕ → ℕ → Board
 ofSize n m = freshBoard (setupOf n m)
 
 -- a run on three nodes and two consoles
-abbrev onThree : List Line → List Line
+abbrev pub onThree : List Line → List Line
 onThree ls = Make 3 2 gives done ∷ ls
 
 -- ---- P1 to P10
@@ -141,7 +141,7 @@ p1 =
     ∷ []
 
 -- the steps of P2, on three nodes and two consoles
-abbrev p2-steps : List Line
+abbrev pub p2-steps : List Line
 p2-steps =
     write 1 7 gives done
     ∷ deliver 1 0 gives handed
@@ -241,7 +241,7 @@ p8-reply = onThree (read 0 gives done ∷ deliver 0 1 gives handed ∷ nodeDown 
 
 -- P9's board, written down and not reached by a run: one node and one console, which asks with a write of 7; the reply
 -- in its cell has the timestamp t
-abbrev p9-board : ℕ → Board
+abbrev pub p9-board : ℕ → Board
 p9-board t =
     record {
       setup = setupOf 1 1;
@@ -262,11 +262,11 @@ p10-empty = onThree (p2-steps ++ (CellOf 1 0 gives Frames Nothing ∷ deliver 1 
 p10-busy : List Line
 p10-busy = onThree (take 8 p2-steps ++ (read 1 gives refused 7 ∷ write 1 9 gives refused 7 ∷ []))
 
-abbrev run : ℕ → Board → List Line → PRun
+abbrev pub run : ℕ → Board → List Line → PRun
 run i b ls = record { number = i; start = b; lines = ls }
 
 -- the board before a run has made one
-abbrev blank : Board
+abbrev pub blank : Board
 blank = freshBoard smallest
 
 -- the list

@@ -1,5 +1,5 @@
--- The ten questions of document 01, 'Questions put before each step', in their order, each with the number of its refusal.
--- This is the table of refusal numbers; the steps say which of them they ask.
+-- The ten questions of document 01, 'Questions put before each step', in their order, each with the number of its refusal,
+-- and after them those of document 02. This is the table of refusal numbers; the steps say which of them they ask.
 use Prim.Native.Nat.{ℕ}
 use mathlib.Core.Bool.{not}
 use lib.Dec.{ltb}
@@ -29,7 +29,7 @@ has-allowed-consoles m = consolesAllowed m or-refuse 3
 abbrev pub has-console : Board → ℕ → Question
 has-console b c = ltb c (b .setup .m) or-refuse 4
 
--- 5. 'Is the node number below n? (deliver, node down)'
+-- 5. 'Is the node number below n? (deliver, node down)', and node up
 abbrev pub has-node : Board → ℕ → Question
 has-node b k = ltb k (b .setup .n) or-refuse 5
 
@@ -53,3 +53,7 @@ node-is-up b k = nodeAt b k .up or-refuse 9
 -- delivery turns; x is the console with the reply taken in
 abbrev pub has-next-ts : Console → Question
 has-next-ts x = (writes (x .state) implies ltb (x .best .ts) maxTs) or-refuse 10
+
+-- 14 (document 02, Paper 2). Node up 'refuses, after question 5, a node that is already up'
+abbrev pub node-is-down : Board → ℕ → Question
+node-is-down b k = not (nodeAt b k .up) or-refuse 14

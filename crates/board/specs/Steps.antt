@@ -1,7 +1,7 @@
--- The steps but for deliver (document 01, 'The steps'): fresh, begin read, begin write, node down, console down.
--- Each is its questions and then its effect.
+-- The steps but for deliver (document 01, 'The steps'): fresh, begin read, begin write, node down, console down; and node up
+-- (document 02, Paper 2). Each is its questions and then its effect.
 use Prim.Native.Nat.{ℕ}
-use mathlib.Core.Bool.{false}
+use mathlib.Core.Bool.{true, false}
 use mathlib.Core.List.{[], _∷_}
 use Rattle.parts.specs.declared.Frame.the-variants.{Ask}
 use Rattle.parts.specs.declared.Kind.{Kind}
@@ -14,7 +14,7 @@ use Rattle.parts.specs.declared.Outcome.the-variants.{Done}
 use Rattle.board.specs.declared.Answer.{Answer}
 use Rattle.board.specs.Boards.{nodeAt, consoleAt, withNode, withConsole, withRow, freshBoard}
 use Rattle.board.specs.Answers.{answer, guarded}
-use Rattle.board.specs.Questions.{is-well-formed, has-allowed-nodes, has-allowed-consoles, has-console, has-node, console-is-up, console-is-idle, node-is-up}
+use Rattle.board.specs.Questions.{is-well-formed, has-allowed-nodes, has-allowed-consoles, has-console, has-node, console-is-up, console-is-idle, node-is-up, node-is-down}
 
 -- n nodes and m consoles
 abbrev pub setupOf : ℕ → ℕ → Setup
@@ -59,6 +59,15 @@ nodeDown b k =
     (is-well-formed b ∷ has-node b k ∷ node-is-up b k ∷ [])
     b
     (answer Done (withNode b k (withUp false (nodeAt b k))))
+
+-- Node up (node): 'the node resumes with the tag and value it held, and frames waiting for it can be delivered again'
+-- (question 9)
+unfoldable pub nodeUp : Board → ℕ → Answer
+nodeUp b k =
+    guarded
+    (is-well-formed b ∷ has-node b k ∷ node-is-down b k ∷ [])
+    b
+    (answer Done (withNode b k (withUp true (nodeAt b k))))
 
 -- 'Console down (console): down for good, its operation gone, its cells as they are'
 unfoldable pub consoleDown : Board → ℕ → Answer

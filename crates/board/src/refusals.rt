@@ -25,3 +25,6 @@ pub const NOT_THREE_FIELDS: u32 = 11;
 pub const NO_SUCH_VERB: u32 = 12;
 
 pub const LINE_TOO_LONG: u32 = 13;
+
+// Node up's own (document 02, Paper 2).
+pub const NODE_IS_UP: u32 = 14;

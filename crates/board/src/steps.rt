@@ -1,9 +1,10 @@
-// The steps but for deliver: begin read, begin write, node down, console down. Each puts its questions in their order and
+// The steps but for deliver: begin read, begin write, node down, node up, console down. Each puts its questions in their order and
 // then takes effect; the board goes in and the next one comes back in the answer.
+ghost use mathlib.Core.Bool.{cond};
 ghost use mathlib.Core.Path.{_≡_};
 ghost use Prim.Native.Nat.{_<_, _≤_};
 ghost use Rattle.parts.specs.Limits.{maxNodes, maxConsoles};
-ghost use Rattle.board.specs.Steps.{begun, begin, beginRead, beginWrite, nodeDown, consoleDown};
+ghost use Rattle.board.specs.Steps.{begun, begin, beginRead, beginWrite, nodeDown, nodeUp, consoleDown};
 use crate::Answer;
 use crate::Board;
 use crate::refusals::CONSOLE_BUSY;
@@ -11,6 +12,7 @@ use crate::refusals::CONSOLE_IS_DOWN;
 use crate::refusals::NO_SUCH_CONSOLE;
 use crate::refusals::NO_SUCH_NODE;
 use crate::refusals::NODE_IS_DOWN;
+use crate::refusals::NODE_IS_UP;
 use crate::refusals::NOT_WELL_FORMED;
 use changes::consoles::ask;
 use changes::consoles::rest;
@@ -41,17 +43,14 @@ impl Board {
     pub fn node_down(self, k: NodeId) -> Answer
         ensures { λ r. ⌜ r ≡ nodeDown self (k .0) ⌝ }
     {
-        if !self.is_well_formed() {
-            return Answer::refused(NOT_WELL_FORMED, self);
-        }
-        if k.0 >= self.setup.n {
-            return Answer::refused(NO_SUCH_NODE, self);
-        }
-        let x = self.node_at(k);
-        if !x.up {
-            return Answer::refused(NODE_IS_DOWN, self);
-        }
-        Answer::accepted(Outcome::Done, self.with_node(k, set_up(x, false)))
+        turn_node(self, k, false)
+    }
+
+    // Node k comes back with the tag and value that it held; frames waiting for it can be delivered again.
+    pub fn node_up(self, k: NodeId) -> Answer
+        ensures { λ r. ⌜ r ≡ nodeUp self (k .0) ⌝ }
+    {
+        turn_node(self, k, true)
     }
 
     // Console c goes down for good: its operation is gone, its frames stay in their cells.
@@ -101,4 +100,24 @@ fn begun_at(b: Board, c: ConsoleId, w: Kind, v: u32) -> Board
 {
     let x = b.console_at(c);
     b.with_row(c, Frame::Ask).with_console(c, ask(w, v, x))
+}
+
+// Node k goes down or comes back; it is refused if it is so already.
+fn turn_node(b: Board, k: NodeId, up: bool) -> Answer
+    ensures { λ r. ⌜ r ≡ cond up (nodeUp b (k .0)) (nodeDown b (k .0)) ⌝ }
+{
+    if !b.is_well_formed() {
+        return Answer::refused(NOT_WELL_FORMED, b);
+    }
+    if k.0 >= b.setup.n {
+        return Answer::refused(NO_SUCH_NODE, b);
+    }
+    let x = b.node_at(k);
+    if x.up == up {
+        if up {
+            return Answer::refused(NODE_IS_UP, b);
+        }
+        return Answer::refused(NODE_IS_DOWN, b);
+    }
+    Answer::accepted(Outcome::Done, b.with_node(k, set_up(x, up)))
 }

@@ -43,7 +43,7 @@ pub record Inv (σ : Setup) (r : Run) : Type 0 where
   pub pairs : Pairs σ (r .board) (r .ops)
   -- Every waiting console has an operation open: it was begun, and what closes it ends the waiting.
   pub waits : (c : ℕ) → c < σ .m → isWaiting (consoleAt (r .board) c .state) ≡ true → Any (OpenAt c) (r .ops)
-  -- The nodes that are up are those that the log says: only node down changes either.
+  -- The nodes that are up are those that the log says: only node down and node up change either.
   pub ups : (j : ℕ) → j < σ .n → nodeAt (r .board) j .up ≡ r .up j
 
 -- ---- the pairs move with their operations

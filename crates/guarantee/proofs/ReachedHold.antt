@@ -1,7 +1,9 @@
 -- The runs of specs/Reached.antt, by computation: P4 takes as many deliveries as the bound allows, a closed operation counts no
--- more, and with two of three nodes down there is no frame that can be delivered, and no majority.
+-- more, and with two of three nodes down there is no frame that can be delivered, and no majority, until one of them
+-- comes back.
 use Prim.Native.Nat.{ℕ, _+_, _*_}
 use mathlib.Core.List.{List, map, _∷_, []}
+use native.Mathlib.Omega.{arith}
 use mathlib.Core.Path.{refl, _≡_}
 use Rattle.parts.specs.AnsweredSet.{insert, member, onlyBelow, size}
 use Rattle.parts.specs.Finite.{count, every}
@@ -14,14 +16,16 @@ use Rattle.board.specs.Answers.{guarded}
 use Rattle.board.specs.Boards.{consoleAt, frameAt, freshBoard, nodeAt, withConsole, withFrame, withNode, withRow}
 use Rattle.board.specs.Deliver.{acknowledged, deliver, discards, heard, onAck, onAsk, onFrame, onPut, onReply, replied, toNode, turned}
 use Rattle.board.specs.Runs.{Step, step}
-use Rattle.board.specs.Steps.{begin, begun, consoleDown, fresh, nodeDown}
+use Rattle.board.specs.Steps.{begin, begun, consoleDown, fresh, nodeDown, nodeUp}
 use Rattle.board.specs.WellFormed.{wellFormed}
+use Rattle.guarantee.specs.Claim.{HasDeliverable, here}
 use Rattle.guarantee.specs.Log.{Run, after, next, noted, ofConsole, run, start, tally, upAfter, writesBegun}
-use Rattle.guarantee.specs.Reached.{late-log, late-steps, mixed-log, mixed-steps, p4-log, p4-steps, stuck-log, stuck-refusals, stuck-steps}
+use Rattle.guarantee.specs.Reached.{all-back-refusals, all-back-steps, back-refusals, back-steps, late-log, late-steps, mixed-log, mixed-steps, p4-log, p4-steps, stuck-log, stuck-refusals, stuck-steps}
+use Rattle.guarantee.proofs.Theorem.{demand-3}
 
 -- a run with every definition opened
 whole : ℕ → ℕ → List Step → Run
-unfolding run start after next noted upAfter ofConsole every count greater member insert size onlyBelow majority askSize tellSize nodeIn consoleIn frameIn place setFrame setRow nodesAllowed consolesAllowed setupOk isZero tagOk nodeOk nodesOk restOk wantedOk waitOk stateOk consoleOk consolesOk frameOk cellOk rowOk cellsOk withUp taken rests asks awaits hears nextTag tells acked nodeAt consoleAt frameAt withNode withConsole withFrame withRow freshBoard wellFormed guarded fresh begun begin nodeDown consoleDown toNode onAsk onPut discards heard turned replied onReply acknowledged onAck onFrame deliver step
+unfolding run start after next noted upAfter ofConsole every count greater member insert size onlyBelow majority askSize tellSize nodeIn consoleIn frameIn place setFrame setRow nodesAllowed consolesAllowed setupOk isZero tagOk nodeOk nodesOk restOk wantedOk waitOk stateOk consoleOk consolesOk frameOk cellOk rowOk cellsOk withUp taken rests asks awaits hears nextTag tells acked nodeAt consoleAt frameAt withNode withConsole withFrame withRow freshBoard wellFormed guarded fresh begun begin nodeDown nodeUp consoleDown toNode onAsk onPut discards heard turned replied onReply acknowledged onAck onFrame deliver step
 whole n m ss = run n m ss
 
 p4-reaches : whole 3 2 p4-steps .ops ≡ p4-log
@@ -47,6 +51,31 @@ stuck-refused = refl
 stuck-up : count 3 (whole 3 1 stuck-steps .up) ≡ 1
 unfolding whole stuck-steps
 stuck-up = refl
+
+back-up : count 3 (whole 3 1 back-steps .up) ≡ majority 3
+unfolding whole back-steps majority
+back-up = refl
+
+back-open : whole 3 1 back-steps .ops ≡ stuck-log
+unfolding whole back-steps stuck-log
+back-open = refl
+
+back-refused : map (λ k. deliver (whole 3 1 back-steps .board) 0 k .refusal) (0 ∷ 1 ∷ 2 ∷ []) ≡ back-refusals
+unfolding whole back-steps back-refusals
+back-refused = refl
+
+-- and that follows from demand 3
+back-goes-on : HasDeliverable 3 (whole 3 1 back-steps) 0
+unfolding whole back-steps writesBegun tally majority
+back-goes-on = demand-3 3 1 (omega arith) (omega arith) (omega arith) (omega arith) back-steps (omega arith) .progress (omega arith) 0 (here (refl, refl))
+
+all-back-up : count 3 (whole 3 1 all-back-steps .up) ≡ 3
+unfolding whole all-back-steps
+all-back-up = refl
+
+all-back-refused : map (λ k. deliver (whole 3 1 all-back-steps .board) 0 k .refusal) (0 ∷ 1 ∷ 2 ∷ []) ≡ all-back-refusals
+unfolding whole all-back-steps all-back-refusals
+all-back-refused = refl
 
 mixed-logged : whole 1 2 mixed-steps .ops ≡ mixed-log
 unfolding whole mixed-steps mixed-log

@@ -17,7 +17,7 @@ use Rattle.parts.specs.declared.State.the-variants.{Down}
 use Rattle.checks.specs.Clauses.{wantedOk}
 use Rattle.changes.specs.Changes.{hears, nextTag, rests, withUp}
 use Rattle.board.specs.Boards.{consoleAt, freshBoard, nodeAt, withConsole, withNode}
-use Rattle.board.specs.Runs.{BeginRead, BeginWrite, ConsoleDown, Deliver, NodeDown, Step, step}
+use Rattle.board.specs.Runs.{BeginRead, BeginWrite, ConsoleDown, Deliver, NodeDown, NodeUp, Step, step}
 use Rattle.board.specs.Steps.{begun, fresh, setupOf}
 use Rattle.board.specs.declared.Answer.{Answer}
 use Rattle.board.specs.declared.Board.{Board}
@@ -28,7 +28,7 @@ use Rattle.guarantee.proofs.Tags.{key}
 use Rattle.guarantee.proofs.Sizes.{Allowed}
 use Rattle.guarantee.proofs.States.{asking-waits, contra, turns}
 use Rattle.guarantee.proofs.Shapes.{m-is, n-is}
-use Rattle.guarantee.proofs.Views.{Begun, Consoles-down, Nodes-turn, Ranged, begins, consoles-down, delivered, did-begin, did-console, did-node, fresh-made, no-begin, no-console, no-node, nodes-down}
+use Rattle.guarantee.proofs.Views.{Begun, Consoles-down, Nodes-turn, Ranged, begins, consoles-down, delivered, did-begin, did-console, did-node, fresh-made, no-begin, no-console, no-node, nodes-down, nodes-up}
 use Rattle.guarantee.proofs.Boards.{BoardOk, Good, TagKind, beside-console, board-up}
 use Rattle.guarantee.proofs.Consoles.{Fair, hears-kind, next-good}
 use Rattle.guarantee.proofs.Effects.{Own, ends-now, goesOn, going, reply-kind, turns-now}
@@ -141,7 +141,7 @@ module _ {σ : Setup} (r : Run) (h : Inv σ r) where
       wait d dm z true e = here (refl, sym (eqb-true d c e))
       wait d dm z false e = there (any-each (open-move d z) es (h .waits d dm (rw (g .beside .console d (eqb-false d c e)) at z)))
 
-  -- ---- the downs
+  -- ---- the downs and the ups
 
   -- the board is kept whatever is known, and the log's operations move
   inv-same : (b′ : Board) (l : List Op) (u : ℕ → Bool) → Each (Moves σ (r .place) (r .board) b′) (r .ops) l → ((K : TagKind) → Fair K σ → BoardOk K σ (r .board) → BoardOk K σ b′)
@@ -190,6 +190,7 @@ module _ {σ : Setup} (r : Run) (h : Inv σ r) where
       (deliver-effect (good-fair al) (r .board) c k (board-up (λ t v q. q .good) (h .ok)) (λ cm _ u v _ _ _ _ l. next-good σ c (hears (consoleAt (r .board) c) k u v) (consoleAt (r .board) c .wanted) cm l) (delivered (r .board) c k))
   inv-next (NodeDown k) = inv-node (NodeDown k) false k (nodes-down (r .board) k) (λ _. refl) (λ j. refl)
   inv-next (ConsoleDown c) = inv-down c (consoles-down (r .board) c)
+  inv-next (NodeUp k) = inv-node (NodeUp k) true k (nodes-up (r .board) k) (λ _. refl) (λ j. refl)
 
 pub inv-after : {σ : Setup} (ss : List Step) (r : Run) → Inv σ r → Inv σ (after r ss)
 unfolding after

@@ -23,8 +23,8 @@ use Rattle.changes.specs.Changes.{acked, awaits, hears, rests, taken, withUp}
 use Rattle.board.specs.Answers.{Question, answer, guarded, refuse}
 use Rattle.board.specs.Boards.{consoleAt, frameAt, freshBoard, nodeAt, withConsole, withFrame, withNode}
 use Rattle.board.specs.Deliver.{acknowledged, deliver, discards, heard, onAck, onAsk, onFrame, onPut, onReply, replied, toNode, turned}
-use Rattle.board.specs.Questions.{console-is-idle, console-is-up, has-allowed-consoles, has-allowed-nodes, has-console, has-next-ts, has-node, holds-frame, is-well-formed, node-is-up}
-use Rattle.board.specs.Steps.{begin, begun, consoleDown, fresh, nodeDown, smallest}
+use Rattle.board.specs.Questions.{console-is-idle, console-is-up, has-allowed-consoles, has-allowed-nodes, has-console, has-next-ts, has-node, holds-frame, is-well-formed, node-is-down, node-is-up}
+use Rattle.board.specs.Steps.{begin, begun, consoleDown, fresh, nodeDown, nodeUp, smallest}
 use Rattle.board.specs.declared.Answer.{Answer}
 use Rattle.board.specs.declared.Board.{Board}
 use Rattle.guarantee.specs.Claim.{_also_, All, none}
@@ -135,6 +135,13 @@ unfolding nodeDown
 nodes-down b k = questions (Nodes-turn false b k) _ (λ _. no-node) yes
   where
     yes : All Yes (is-well-formed b ∷ has-node b k ∷ node-is-up b k ∷ []) → Nodes-turn false b k (answer Done (withNode b k (withUp false (nodeAt b k))))
+    yes (_ also kn also _ also none) = did-node (ltb-true k (b .setup .n) kn)
+
+pub nodes-up : (b : Board) (k : ℕ) → Nodes-turn true b k (nodeUp b k)
+unfolding nodeUp
+nodes-up b k = questions (Nodes-turn true b k) _ (λ _. no-node) yes
+  where
+    yes : All Yes (is-well-formed b ∷ has-node b k ∷ node-is-down b k ∷ []) → Nodes-turn true b k (answer Done (withNode b k (withUp true (nodeAt b k))))
     yes (_ also kn also _ also none) = did-node (ltb-true k (b .setup .n) kn)
 
 pub data Consoles-down (b : Board) (c : ℕ) : Answer → Type 0 where

@@ -1,5 +1,5 @@
--- Demand 3, as document 01's 'What demand 3 speaks of' reads it: one claim about every run from a fresh board of any allowed
--- size. proofs/Theorem.antt proves it.
+-- Demand 3, as document 01's 'What demand 3 speaks of' and document 02's Paper 2 read it: one claim about every run from a
+-- fresh board of any allowed size. proofs/Theorem.antt proves it.
 use Prim.Native.Nat.{ℕ, _+_, _*_, _≤_, _<_}
 use mathlib.Core.Bool.{true, false}
 use mathlib.Core.List.{List, [], _∷_}
@@ -52,7 +52,8 @@ pub record Demand3 (n m : ℕ) (r : Run) : Type 0 where
   -- 'The consoles with an operation open are exactly the waiting ones'
   pub open-waits : (c : ℕ) → HasOpen r c → Waits m r c
   pub waits-open : (c : ℕ) → Waits m r c → HasOpen r c
-  -- 'every console with an operation open has a frame that can be delivered, if a majority of the machines is up'
+  -- 'every console with an operation open has a frame that can be delivered, if a majority of the machines is up'; 'the
+  -- progress rule's majority is now q or more machines up at the list's end'
   pub progress : majority n ≤ count n (r .up) → (c : ℕ) → HasOpen r c → HasDeliverable n r c
   -- 'every operation has taken at most 2(n + q) accepted deliveries .. from begin to finish, or so far if unfinished'
   pub bound : All (λ x. x .took ≤ 2 * (n + majority n)) (r .ops)
@@ -64,7 +65,7 @@ pub record Demand3 (n m : ℕ) (r : Run) : Type 0 where
 abbrev pub maxWrites : ℕ
 maxWrites = 4000000000
 
--- 'For every list of begin reads, begin writes, deliveries, node downs and console downs, refused ones included, from a fresh
--- board of any allowed size'
+-- 'For every list of begin reads, begin writes, deliveries, node downs and console downs', and node ups, 'refused ones
+-- included, from a fresh board of any allowed size'
 abbrev pub Claim : Type 0
 Claim = (n m : ℕ) → 1 ≤ n → n ≤ maxNodes → 1 ≤ m → m ≤ maxConsoles → (ss : List Step) → writesBegun (run n m ss) ≤ maxWrites → Demand3 n m (run n m ss)

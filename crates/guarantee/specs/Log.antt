@@ -1,4 +1,5 @@
--- A run and its log: document 01, 'What demand 3 speaks of'. The log is built from the steps and their answers alone.
+-- A run and its log: document 01, 'What demand 3 speaks of', with node up (document 02, Paper 2). The log is built from the
+-- steps and their answers alone.
 use Prim.Native.Nat.{ℕ, _+_}
 use mathlib.Core.Bool.{Bool, true, false, cond, _&&_}
 use mathlib.Core.List.{List, [], _∷_, map}
@@ -11,7 +12,7 @@ use Rattle.parts.specs.declared.Outcome.{Outcome}
 use Rattle.parts.specs.declared.Outcome.the-variants.{Refused, Done, Handed, Heard, Turned, Finished, Discarded}
 use Rattle.board.specs.declared.Answer.{Answer}
 use Rattle.board.specs.Steps.{setupOf, fresh}
-use Rattle.board.specs.Runs.{Step, BeginRead, BeginWrite, Deliver, NodeDown, ConsoleDown, step}
+use Rattle.board.specs.Runs.{Step, BeginRead, BeginWrite, Deliver, NodeDown, ConsoleDown, NodeUp, step}
 
 -- ---- operations
 
@@ -94,14 +95,16 @@ noted i (BeginWrite c v) o ops = opened i c true ∷ ops
 noted i (Deliver c k) o ops = map (ofConsole c (delivering i o)) ops
 noted i (NodeDown k) o ops = ops
 noted i (ConsoleDown c) o ops = map (ofConsole c losing) ops
+noted i (NodeUp k) o ops = ops
 
--- 'A machine is up until an accepted node down of it'
+-- 'A machine is up until an accepted node down of it', and from then on by the last accepted node down or node up of it
 unfoldable pub upAfter : Step → (ℕ → Bool) → ℕ → Bool
 upAfter (BeginRead c) u j = u j
 upAfter (BeginWrite c v) u j = u j
 upAfter (Deliver c k) u j = u j
 upAfter (NodeDown k) u j = cond (eqb j k) false (u j)
 upAfter (ConsoleDown c) u j = u j
+upAfter (NodeUp k) u j = cond (eqb j k) true (u j)
 
 -- ---- runs
 
@@ -133,7 +136,7 @@ after r (s ∷ ss) = after (next r s) ss
 unfoldable pub start : ℕ → ℕ → Run
 start n m = record { place = 1; board = fresh (setupOf n m) .board; ops = []; up = λ _. true }
 
--- 'A run from a fresh board is a list of the five kinds of step'
+-- 'A run from a fresh board is a list of the five kinds of step', and of the sixth
 unfoldable pub run : ℕ → ℕ → List Step → Run
 run n m ss = after (start n m) ss
 

@@ -2,10 +2,10 @@
 -- proofs/ReachedHold.antt computes them.
 use Prim.Native.Nat.{ℕ}
 use mathlib.Core.Bool.{true, false}
-use mathlib.Core.List.{List, [], _∷_}
+use mathlib.Core.List.{List, [], _∷_, _++_}
 use Rattle.parts.specs.declared.Tag.{Tag}
 use Rattle.parts.specs.Tags.{zeroTag}
-use Rattle.board.specs.Runs.{Step, BeginRead, BeginWrite, Deliver, NodeDown, ConsoleDown}
+use Rattle.board.specs.Runs.{Step, BeginRead, BeginWrite, Deliver, NodeDown, ConsoleDown, NodeUp}
 use Rattle.guarantee.specs.Log.{Op, Open, Complete, Lost}
 
 abbrev one-one : Tag
@@ -60,6 +60,24 @@ stuck-log = record { console = 0; wrote = false; began = 3; took = 2; turned = f
 -- what delivering to each of its nodes as the next step would be refused with
 unfoldable pub stuck-refusals : List ℕ
 stuck-refusals = 9 ∷ 9 ∷ 8 ∷ []
+
+-- and on from there: of the majority that went down node 1 comes back, so that just q are up; a second node down before it
+-- and a second node up after it are refused
+unfoldable pub back-steps : List Step
+unfolding stuck-steps
+back-steps = stuck-steps ++ (NodeDown 1 ∷ NodeUp 1 ∷ NodeUp 1 ∷ [])
+
+-- now node 1's ask can be delivered
+unfoldable pub back-refusals : List ℕ
+back-refusals = 9 ∷ 0 ∷ 8 ∷ []
+
+-- and then node 0, and its ask too
+unfoldable pub all-back-steps : List Step
+unfolding back-steps
+all-back-steps = back-steps ++ (NodeUp 0 ∷ [])
+
+unfoldable pub all-back-refusals : List ℕ
+all-back-refusals = 0 ∷ 0 ∷ 8 ∷ []
 
 -- on one node and two consoles: refused begins and deliveries, two operations of one console, a console down without an
 -- operation and one that ends an operation
