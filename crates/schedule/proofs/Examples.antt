@@ -16,7 +16,7 @@ use Rattle.changes.specs.Changes.{withUp, taken, rests, asks, awaits, hears, ne
 use Rattle.board.specs.Boards.{nodeAt, consoleAt, frameAt, withNode, withConsole, withFrame, withRow, freshBoard}
 use Rattle.board.specs.WellFormed.{wellFormed}
 use Rattle.board.specs.Answers.{guarded}
-use Rattle.board.specs.Steps.{fresh, begun, begin, nodeDown, consoleDown}
+use Rattle.board.specs.Steps.{fresh, begun, begin, nodeDown, nodeUp, consoleDown}
 use Rattle.board.specs.Deliver.{toNode, onAsk, onPut, discards, heard, turned, replied, onReply, acknowledged, onAck, onFrame, deliver}
 use Rattle.verbs.specs.Verbs.{stepOf}
 use Rattle.schedule.specs.Schedule.{answerOf, boardAfter, rowOf, effectOf, nextNumber, outputOf, scheduleText}
@@ -41,9 +41,11 @@ examples =
     ∷ ("0,1,1\r" prints "1,11,0,0,0,0\n")
     -- a refused fresh leaves the board of two nodes; an unknown verb is refused before question 4, and a line that is not three fields
     -- before that
-    ∷ ("0,2,1\n0,6,1\n4,1,0\n6,9,9\n6,9\n" prints "1,0,1,0,0,0\n2,2,0,0,0,0\n3,0,1,0,0,0\n4,12,0,0,0,0\n5,11,0,0,0,0\n")
+    ∷ ("0,2,1\n0,6,1\n4,1,0\n7,9,9\n7,9\n" prints "1,0,1,0,0,0\n2,2,0,0,0,0\n3,0,1,0,0,0\n4,12,0,0,0,0\n5,11,0,0,0,0\n")
+    -- an ask waits for a node that is down, and is handed over once it has come back; a second node up and one of no node are refused
+    ∷ ("1,0,0\n4,0,0\n3,0,0\n6,0,9\n6,0,9\n6,1,0\n3,0,0\n" prints "1,0,1,0,0,0\n2,0,1,0,0,0\n3,9,0,0,0,0\n4,0,1,0,0,0\n5,14,0,0,0,0\n6,5,0,0,0,0\n7,0,2,0,0,0\n")
     ∷ []
 
 pub schedules-printed : map (λ x. scheduleText (bytes (x .input))) examples ≡ map (λ x. bytes (x .must)) examples
-unfolding bytes indexOf countOf fromField quoted unquoted fieldOf allDigits valueFrom numOf lineOf digits decimal joined lineText chop linesAfter every count greater member insert size onlyBelow majority askSize tellSize nodeIn consoleIn frameIn place setFrame setRow nodesAllowed consolesAllowed setupOk isZero tagOk nodeOk nodesOk restOk wantedOk waitOk stateOk consoleOk consolesOk frameOk cellOk rowOk cellsOk withUp taken rests asks awaits hears nextTag tells acked nodeAt consoleAt frameAt withNode withConsole withFrame withRow freshBoard wellFormed guarded fresh begun begin nodeDown consoleDown toNode onAsk onPut discards heard turned replied onReply acknowledged onAck onFrame deliver stepOf answerOf boardAfter rowOf effectOf nextNumber outputOf scheduleText examples
+unfolding bytes indexOf countOf fromField quoted unquoted fieldOf allDigits valueFrom numOf lineOf digits decimal joined lineText chop linesAfter every count greater member insert size onlyBelow majority askSize tellSize nodeIn consoleIn frameIn place setFrame setRow nodesAllowed consolesAllowed setupOk isZero tagOk nodeOk nodesOk restOk wantedOk waitOk stateOk consoleOk consolesOk frameOk cellOk rowOk cellsOk withUp taken rests asks awaits hears nextTag tells acked nodeAt consoleAt frameAt withNode withConsole withFrame withRow freshBoard wellFormed guarded fresh begun begin nodeDown nodeUp consoleDown toNode onAsk onPut discards heard turned replied onReply acknowledged onAck onFrame deliver stepOf answerOf boardAfter rowOf effectOf nextNumber outputOf scheduleText examples
 schedules-printed = refl

@@ -18,6 +18,7 @@ pub fn step_of(b: Board, verb: u32, x: u32, y: u32) -> Answer
         3 => b.deliver(ConsoleId(x), NodeId(y)),
         4 => b.node_down(NodeId(x)),
         5 => b.console_down(ConsoleId(x)),
-        6..=4294967295 => Answer::refused(NO_SUCH_VERB, b),
+        6 => b.node_up(NodeId(x)),
+        7..=4294967295 => Answer::refused(NO_SUCH_VERB, b),
     }
 }

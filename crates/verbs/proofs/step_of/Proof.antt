@@ -1,7 +1,7 @@
 -- Each arm is a case of the definition.
 use mathlib.Core.Path.{_∙_}
 use native.Mathlib.Omega.{arith}
-use Rattle.verbs.proofs.VerbsLaws.{no-such-verb}
+use Rattle.verbs.proofs.VerbsLaws.{no-such-verb, past}
 use Rattle.verbs.specs.Verbs.{stepOf}
 use borrow.Author.Needs.{needs}
 use Rattle.verbs.proofs.step_of.Statement.{statement}
@@ -24,6 +24,9 @@ node-down-requires c κs = search needs
 
 console-down-requires : tie.Need-console-down-requires
 console-down-requires c κs = search needs
+
+node-up-requires : tie.Need-node-up-requires
+node-up-requires c κs = search needs
 
 refused-requires : tie.Need-refused-requires
 refused-requires c κs = search needs
@@ -53,7 +56,11 @@ unfolding stepOf
 returns-6 c = rw (c .before .match .keys6) (c .console-down .ensures)
 
 returns-7 : tie.Need-returns-7
-returns-7 c = c .refused .ensures ∙ no-such-verb _ _ _ _ (omega (arith, c .before .match .rest))
+unfolding stepOf
+returns-7 c = rw (c .before .match .keys7) (c .node-up .ensures)
+
+returns-8 : tie.Need-returns-8
+returns-8 c = c .refused .ensures ∙ no-such-verb _ _ _ _ (past 6 _ (omega (arith, c .before .match .rest .0)) (c .before .match .rest .1))
 
 pub step-of-spec : {M : Type 1} → statement M
 step-of-spec =
@@ -65,6 +72,7 @@ step-of-spec =
     deliver-requires
     node-down-requires
     console-down-requires
+    node-up-requires
     refused-requires
     returns
     returns-2
@@ -72,4 +80,5 @@ step-of-spec =
     returns-4
     returns-5
     returns-6
-    returns-7)
+    returns-7
+    returns-8)
