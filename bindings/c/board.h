@@ -10,6 +10,7 @@
  *              3 m is not from 1 to 8           8 there is no frame between console and node
  *              4 there is no such console       9 the node is down
  *              5 there is no such node         10 there is no higher timestamp for the write
+ *             14 the node is up
  *   said[2], said[3], said[4]  the tag's ts and console, and the value, if it has finished; else 0
  *
  * If the step is accepted the next board is written back; if it is refused nothing of the lent board is written.
@@ -46,7 +47,7 @@
 #define ANSWER_WORDS 5
 #define STEP_WORDS 3
 
-enum { STEP_FRESH, STEP_BEGIN_READ, STEP_BEGIN_WRITE, STEP_DELIVER, STEP_NODE_DOWN, STEP_CONSOLE_DOWN };
+enum { STEP_FRESH, STEP_BEGIN_READ, STEP_BEGIN_WRITE, STEP_DELIVER, STEP_NODE_DOWN, STEP_CONSOLE_DOWN, STEP_NODE_UP };
 
 #ifdef __cplusplus
 extern "C" {
@@ -58,6 +59,7 @@ uint32_t board_begin_write(uint32_t *words, size_t words_len, uint32_t *said, si
 uint32_t board_deliver(uint32_t *words, size_t words_len, uint32_t *said, size_t said_len, uint32_t console, uint32_t node);
 uint32_t board_node_down(uint32_t *words, size_t words_len, uint32_t *said, size_t said_len, uint32_t node);
 uint32_t board_console_down(uint32_t *words, size_t words_len, uint32_t *said, size_t said_len, uint32_t console);
+uint32_t board_node_up(uint32_t *words, size_t words_len, uint32_t *said, size_t said_len, uint32_t node);
 uint32_t board_run(uint32_t *words, size_t words_len, const uint32_t *steps, size_t steps_len, uint32_t *said, size_t said_len);
 
 #ifdef __cplusplus

@@ -68,6 +68,7 @@ impl Display for Refusal {
             9 => "the node is down",
             10 => "there is no higher timestamp for the write",
             12 => "there is no such step",
+            14 => "the node is up",
             _ => "for a reason of no known number",
         };
         write!(f, "refused with {}: {why}", self.0)
@@ -103,6 +104,7 @@ pub enum Step {
     Deliver { console: u32, node: u32 },
     NodeDown { node: u32 },
     ConsoleDown { console: u32 },
+    NodeUp { node: u32 },
 }
 
 impl Step {
@@ -114,6 +116,7 @@ impl Step {
             Step::Deliver { console, node } => [3, console, node],
             Step::NodeDown { node } => [4, node, 0],
             Step::ConsoleDown { console } => [5, console, 0],
+            Step::NodeUp { node } => [6, node, 0],
         }
     }
 }
@@ -134,6 +137,7 @@ extern "C" {
     fn board_deliver(words: *mut u32, words_len: usize, said: *mut u32, said_len: usize, console: u32, node: u32) -> u32;
     fn board_node_down(words: *mut u32, words_len: usize, said: *mut u32, said_len: usize, node: u32) -> u32;
     fn board_console_down(words: *mut u32, words_len: usize, said: *mut u32, said_len: usize, console: u32) -> u32;
+    fn board_node_up(words: *mut u32, words_len: usize, said: *mut u32, said_len: usize, node: u32) -> u32;
     fn board_run(words: *mut u32, words_len: usize, steps: *const u32, steps_len: usize, said: *mut u32, said_len: usize) -> u32;
 }
 
@@ -160,7 +164,7 @@ impl Board {
         self.call(|w, wl, s, sl| unsafe { board_deliver(w, wl, s, sl, console, node) })
     }
 
-    /// The node goes down for good.
+    /// The node goes down: it keeps its tag and value, and frames for it wait.
     pub fn node_down(&mut self, node: u32) -> Result<Outcome, Refusal> {
         self.call(|w, wl, s, sl| unsafe { board_node_down(w, wl, s, sl, node) })
     }
@@ -168,6 +172,11 @@ impl Board {
     /// The console goes down for good.
     pub fn console_down(&mut self, console: u32) -> Result<Outcome, Refusal> {
         self.call(|w, wl, s, sl| unsafe { board_console_down(w, wl, s, sl, console) })
+    }
+
+    /// The node comes back with the tag and value that it held, and frames for it can be delivered again.
+    pub fn node_up(&mut self, node: u32) -> Result<Outcome, Refusal> {
+        self.call(|w, wl, s, sl| unsafe { board_node_up(w, wl, s, sl, node) })
     }
 
     /// Puts the steps to the board, one after the other, and gives what each answered. A refused step leaves the board as it
@@ -261,6 +270,7 @@ mod tests {
         let mut board = Board::from_words(words);
         assert_eq!(board.deliver(0, 0), Err(Refusal(1)));
         assert_eq!(board.node_down(0), Err(Refusal(1)));
+        assert_eq!(board.node_up(0), Err(Refusal(1)));
         assert_eq!(board.words(), &words);
     }
 
@@ -272,6 +282,24 @@ mod tests {
         assert_eq!(board.console_down(0), Ok(Outcome::Done));
         assert_eq!(board.console_down(0), Err(Refusal(6)));
         assert_eq!(board.begin_read(0), Err(Refusal(6)));
+    }
+
+    #[test]
+    fn a_node_comes_back_with_what_it_held() {
+        let mut board = Board::fresh(1, 1).unwrap();
+        board.begin_write(0, 7).unwrap();
+        for _ in 0..3 {
+            board.deliver(0, 0).unwrap();
+        }
+        let before = board.clone();
+        assert_eq!(board.node_up(0), Err(Refusal(14)));
+        assert_eq!(board.node_up(1), Err(Refusal(5)));
+        assert_eq!(board.node_down(0), Ok(Outcome::Done));
+        assert_eq!(board.run(&[Step::NodeUp { node: 0 }]), [Ok(Outcome::Done)]);
+        assert_eq!(board, before);
+        let tag = Tag { ts: 1, console: 0 };
+        assert_eq!(board.deliver(0, 0), Ok(Outcome::Finished { tag, value: 7 }));
+        assert_eq!(Refusal(14).to_string(), "refused with 14: the node is up");
     }
 
     #[test]
@@ -331,7 +359,7 @@ mod tests {
         let mut words = *Board::fresh(3, 2).unwrap().words();
         let before = words;
         let mut said = [9; 2 * ANSWER_WORDS + 1];
-        let list = [6, 0, 0, u32::MAX, 0, 0];
+        let list = [7, 0, 0, u32::MAX, 0, 0];
         let (w, l, s) = (words.as_mut_ptr(), list.as_ptr(), said.as_mut_ptr());
         assert_eq!(unsafe { board_run(w, BOARD_WORDS, l, 6, s, 11) }, 0);
         assert_eq!(words, before);

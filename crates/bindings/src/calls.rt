@@ -3,7 +3,7 @@
 ghost use mathlib.Core.Path.{_≡_};
 ghost use Prim.Native.Nat.{_+_, _≤_};
 ghost use lib.ListN.{length};
-ghost use Rattle.board.specs.Steps.{setupOf, fresh, beginRead, beginWrite, nodeDown, consoleDown};
+ghost use Rattle.board.specs.Steps.{setupOf, fresh, beginRead, beginWrite, nodeDown, consoleDown, nodeUp};
 ghost use Rattle.board.specs.Deliver.{deliver};
 ghost use Rattle.words.specs.Words.{boardWords};
 ghost use Rattle.bindings.specs.Calls.{answerWords, said, kept, shortBy, Called};
@@ -139,6 +139,21 @@ pub extern "C" fn board_console_down(w: &mut [u32], s: &mut [u32], c: u32) -> u3
         return short;
     }
     let a = decode(w).console_down(ConsoleId(c));
+    put_answer(s, 0, a);
+    keep(w, a);
+    0
+}
+
+// Node k comes back.
+#[no_mangle]
+pub extern "C" fn board_node_up(w: &mut [u32], s: &mut [u32], k: u32) -> u32
+    ensures { λ r. ⌜ Called (λ b. nodeUp b k) (now (w .entry)) (now (s .entry)) r (now (w .exit)) (now (s .exit)) ⌝ }
+{
+    let short = short_by(w.len(), s.len());
+    if short != 0 {
+        return short;
+    }
+    let a = decode(w).node_up(NodeId(k));
     put_answer(s, 0, a);
     keep(w, a);
     0
