@@ -39,8 +39,8 @@ impl Schedule {
         schedule
     }
 
-    /// A run from a fresh board, up to that many lines, or fewer if no operation can finish any more. Nothing that is down comes
-    /// back, so a long run has no crashes.
+    /// A run from a fresh board, up to that many lines, or fewer if no operation can finish any more. In a long run no console goes
+    /// down, since none comes back.
     fn add_run(&mut self, chance: &mut Chance, is_long: bool, to: usize) {
         let (n, m) = if is_long {
             (5, 8)
@@ -52,12 +52,13 @@ impl Schedule {
         while self.lines < to && goes_on(&board.in_words()) {
             let step = chance.step(&board.in_words());
             let numbers = match step {
-                Step::NodeDown(_) | Step::ConsoleDown(_) if is_long => continue,
+                Step::ConsoleDown(_) if is_long => continue,
                 Step::BeginRead(c) => [1, c, 0],
                 Step::BeginWrite(c, v) => [2, c, v],
                 Step::Deliver(c, k) => [3, c, k],
                 Step::NodeDown(k) => [4, k, 0],
                 Step::ConsoleDown(c) => [5, c, 0],
+                Step::NodeUp(k) => [6, k, 0],
             };
             self.add(numbers, board.step(step));
         }

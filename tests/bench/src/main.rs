@@ -41,6 +41,7 @@ enum Step {
     Deliver(u32, u32),
     NodeDown(u32),
     ConsoleDown(u32),
+    NodeUp(u32),
 }
 
 /// What is timed: a board in one of its three forms.
@@ -74,6 +75,7 @@ macro_rules! side {
                     Step::Deliver(c, k) => self.deliver(c, k),
                     Step::NodeDown(k) => self.node_down(k),
                     Step::ConsoleDown(c) => self.console_down(c),
+                    Step::NodeUp(k) => self.node_up(k),
                 }
             }
         }
@@ -112,11 +114,18 @@ impl Chance {
     /// A step on this board that is likely to be accepted.
     fn step(&mut self, w: &Words) -> Step {
         let (n, m) = (w[0], w[1]);
+        let down = (0..n).filter(|k| w[2 + 4 * *k as usize] == 0);
         match self.below(1000) {
             0..=2 => return Step::NodeDown(self.number(n)),
             3..=5 => return Step::ConsoleDown(self.number(m)),
             6..=19 => return Step::Deliver(self.number(m), self.number(n)),
             20..=39 => return Step::BeginRead(self.number(m)),
+            40 => return Step::NodeUp(self.number(n)),
+            41..=49 => {
+                if let Some(k) = self.drawn(down.clone()) {
+                    return Step::NodeUp(k);
+                }
+            }
             _ => {}
         }
         let idle = (0..m).filter(|c| w[22 + 6 * *c as usize] == 0).count() as u32;
@@ -134,8 +143,11 @@ impl Chance {
             1 | 3 => w[2 + 4 * (*i % 5) as usize] != 0,
             _ => true,
         };
-        match self.drawn((0..40).filter(goes)) {
-            Some(i) => Step::Deliver(i / 5, i % 5),
+        if let Some(i) = self.drawn((0..40).filter(goes)) {
+            return Step::Deliver(i / 5, i % 5);
+        }
+        match self.drawn(down) {
+            Some(k) => Step::NodeUp(k),
             None => Step::BeginWrite(self.number(m), self.next() as u32),
         }
     }
@@ -197,7 +209,7 @@ struct Row {
 }
 
 /// The rows, and which steps belong to each. Only a delivery has another outcome than done.
-const ROWS: [(&str, fn(Step, Answer) -> bool); 11] = [
+const ROWS: [(&str, fn(Step, Answer) -> bool); 12] = [
     ("begin read", |s, a| a.is_ok() && matches!(s, Step::BeginRead(_))),
     ("begin write", |s, a| a.is_ok() && matches!(s, Step::BeginWrite(..))),
     ("deliver", |s, a| a.is_ok() && matches!(s, Step::Deliver(..))),
@@ -207,6 +219,7 @@ const ROWS: [(&str, fn(Step, Answer) -> bool); 11] = [
     ("deliver: finished", |_, a| matches!(a, Ok(Outcome::Finished { .. }))),
     ("deliver: discarded", |_, a| a == Ok(Outcome::Discarded)),
     ("node down", |s, a| a.is_ok() && matches!(s, Step::NodeDown(_))),
+    ("node up", |s, a| a.is_ok() && matches!(s, Step::NodeUp(_))),
     ("console down", |s, a| a.is_ok() && matches!(s, Step::ConsoleDown(_))),
     ("refused", |_, a| a.is_err()),
 ];
@@ -222,11 +235,9 @@ impl Row {
     }
 }
 
-/// Whether some operation can still finish: a console is up, and so is a majority.
+/// Whether some operation can still finish: a console is up. Nodes come back.
 fn goes_on(w: &Words) -> bool {
-    let up = w[2..22].chunks(4).take(w[0] as usize).filter(|x| x[0] != 0).count();
-    let consoles = w[22..70].chunks(6).take(w[1] as usize).filter(|x| x[0] != 5).count();
-    up > w[0] as usize / 2 && consoles > 0
+    w[22..70].chunks(6).take(w[1] as usize).any(|x| x[0] != 5)
 }
 
 /// One run by chance on a size by chance, its steps sorted into the rows.
@@ -330,6 +341,7 @@ fn list(run: &Run) -> Vec<hatukeno::Step> {
         Step::Deliver(console, node) => hatukeno::Step::Deliver { console, node },
         Step::NodeDown(node) => hatukeno::Step::NodeDown { node },
         Step::ConsoleDown(console) => hatukeno::Step::ConsoleDown { console },
+        Step::NodeUp(node) => hatukeno::Step::NodeUp { node },
     }));
     steps
 }

@@ -1,5 +1,5 @@
-//! Document 01's rules in plain Rust, written to be fast: one struct by value, changed in place. With CHECKED every step
-//! asks question 1 first, without it none does; all else is the same code.
+//! The rules of document 01 and Paper 2 in plain Rust, written to be fast: one struct by value, changed in place. With CHECKED
+//! every step asks question 1 first, without it none does; all else is the same code.
 use hatukeno::{Outcome, Refusal, Tag, BOARD_WORDS};
 
 const MAX_NODES: usize = 5;
@@ -165,6 +165,19 @@ impl<const CHECKED: bool> Board<CHECKED> {
             return Err(Refusal(9));
         }
         x.up = false;
+        Ok(Outcome::Done)
+    }
+
+    pub fn node_up(&mut self, node: u32) -> Result<Outcome, Refusal> {
+        self.ask_question_1()?;
+        if node >= self.n {
+            return Err(Refusal(5));
+        }
+        let x = &mut self.nodes[node as usize];
+        if x.up {
+            return Err(Refusal(14));
+        }
+        x.up = true;
         Ok(Outcome::Done)
     }
 

@@ -1,4 +1,5 @@
-//! Paper 1's program in plain Rust over plain.rs: one line at a time in memory that is used again, one board changed in place.
+//! The program of Papers 1 and 2 in plain Rust over plain.rs: one line at a time in memory that is used again, one board changed
+//! in place.
 use crate::plain::Board;
 use hatukeno::{Outcome, Refusal};
 use std::io::{self, BufRead, BufWriter, Write};
@@ -52,6 +53,7 @@ fn answer<const CHECKED: bool>(board: &mut Board<CHECKED>, line: &[u8]) -> Resul
         3 => board.deliver(first, second),
         4 => board.node_down(first),
         5 => board.console_down(first),
+        6 => board.node_up(first),
         _ => Err(Refusal(12)),
     }
 }

@@ -38,13 +38,15 @@ impl Chance {
         }
     }
 
-    /// Mostly deliveries. Nothing that is down comes back, so long runs need some without crashes.
+    /// Mostly deliveries. With crashes a node is up some three quarters of the time, by three node ups drawn for each node down,
+    /// whether it is up or not. Consoles that are down do not come back, so long runs need some without crashes.
     pub fn step(&mut self, n: u32, m: u32, crashes: bool) -> Step {
-        match if crashes { self.below(1000) } else { 8 + self.below(992) } {
-            0..=2 => Step::NodeDown(self.number(n)),
-            3..=7 => Step::ConsoleDown(self.number(m)),
-            8..=100 => Step::BeginRead(self.number(m)),
-            101..=200 => Step::BeginWrite(self.number(m), self.value()),
+        match if crashes { self.below(1037) } else { 45 + self.below(992) } {
+            0..=9 => Step::NodeDown(self.number(n)),
+            10..=39 => Step::NodeUp(self.number(n)),
+            40..=44 => Step::ConsoleDown(self.number(m)),
+            45..=137 => Step::BeginRead(self.number(m)),
+            138..=237 => Step::BeginWrite(self.number(m), self.value()),
             _ => Step::Deliver(self.number(m), self.number(n)),
         }
     }

@@ -63,7 +63,7 @@ const FAR_NUMBERS: [&str; 12] = [
 ];
 
 /// Whole lines that are not three such fields, or have no known verb.
-const ODD_LINES: [&str; 22] = [
+const ODD_LINES: [&str; 24] = [
     "",
     ",",
     ",,",
@@ -81,11 +81,49 @@ const ODD_LINES: [&str; 22] = [
     "\"0,1\",1",
     "0,\"1,1\"",
     "0;1;1",
-    "6,0,0",
+    "6,0",
     "6,x,0",
+    "7,0,0",
+    "7,x,0",
     "7,0",
     "4294967295,0,\"",
     "12,,",
+];
+
+/// Whole lines that have three fields, or nearly: sizes, quotes, a field with no use, node ups.
+const EDGE_LINES: [&str; 11] = [
+    "0,0,1",
+    "0,6,9",
+    "0,5,9",
+    "0,1,4294967297",
+    "\"1\",\"0\",\"0\"",
+    "1,0,x",
+    "\r1,0,0",
+    "1,0,\r0",
+    "6,0,0",
+    "6,0,x",
+    "6,2,0",
+];
+
+/// Lines put while node 1 of 2 is down: the first four bring it back, the others are refused.
+const BACK_LINES: [&str; 17] = [
+    "6,1,0",
+    "6,1,4294967295",
+    "\"6\",\"1\",\"0\"",
+    "006,01,00",
+    "6,1,x",
+    "6,1,",
+    "6,1",
+    "6,1,0,0",
+    "6,1,4294967296",
+    "6,0,0",
+    "6,2,0",
+    "6,4,0",
+    "6,5,0",
+    "6,4294967295,0",
+    "6,4294967297,0",
+    "4294967302,1,0",
+    "7,1,0",
 ];
 
 /// Ends of lines, and what is no end: nothing, a CR alone, and an LF with its CR at the wrong side.
@@ -107,19 +145,7 @@ pub fn edges() -> Vec<Vec<u8>> {
         for length in 62..=67 {
             between(&stretched(length), end);
         }
-        for line in ODD_LINES {
-            between(line.as_bytes(), end);
-        }
-        for line in [
-            "0,0,1",
-            "0,6,9",
-            "0,5,9",
-            "0,1,4294967297",
-            "\"1\",\"0\",\"0\"",
-            "1,0,x",
-            "\r1,0,0",
-            "1,0,\r0",
-        ] {
+        for line in ODD_LINES.iter().chain(&EDGE_LINES) {
             between(line.as_bytes(), end);
         }
     }
@@ -134,6 +160,20 @@ pub fn edges() -> Vec<Vec<u8>> {
     for length in 4070..=4096 {
         schedules.push([&vec![b'x'; length], &b"\n0,3,2\r\n2,1,7\r\r\n3,1,0\r\n"[..]].concat());
     }
+    schedules.extend(returns());
+    schedules
+}
+
+/// Node 1 of 2 is down and a frame waits for it; the lines after the odd one show whether it is up again. In the last schedule a
+/// node keeps what was written, over its down and up.
+fn returns() -> Vec<Vec<u8>> {
+    let mut schedules: Vec<Vec<u8>> = BACK_LINES
+        .iter()
+        .map(|line| format!("0,2,3\n1,0,0\n4,1,0\n3,0,1\n{line}\n3,0,1\n6,1,0\n6,1,0\n3,0,1\n"))
+        .map(String::into_bytes)
+        .collect();
+    let by_node_0 = "3,0,0\n".repeat(4);
+    schedules.push(format!("0,1,1\n2,0,7\n{by_node_0}4,0,0\n6,0,0\n1,0,0\n{by_node_0}").into_bytes());
     schedules
 }
 
@@ -184,8 +224,8 @@ impl Drawing<'_> {
         if self.chance.one_in(self.damaged) {
             return self.damaged_line();
         }
-        // A run with crashes soon gets nowhere.
-        if self.chance.one_in(if self.crashes { 100 } else { 500 }) {
+        // With crashes the consoles go down one after the other, and none of them comes back.
+        if self.chance.one_in(if self.crashes { 200 } else { 500 }) {
             return self.fresh();
         }
         let numbers = self.step();
@@ -215,6 +255,7 @@ impl Drawing<'_> {
             Step::Deliver(c, k) => [3, c, k],
             Step::NodeDown(k) => [4, k, self.chance.value()],
             Step::ConsoleDown(c) => [5, c, self.chance.value()],
+            Step::NodeUp(k) => [6, k, self.chance.value()],
         }
     }
 
@@ -254,9 +295,9 @@ impl Drawing<'_> {
             3 => fields[place] = self.drawn(&FAR_NUMBERS).to_string(),
             // Beyond 32 bits, and the good number if only the low 32 bits were kept.
             4 => fields[place] = (u64::from(numbers[place]) + (u64::from(1 + self.chance.below(5)) << 32)).to_string(),
-            5 => fields[0] = (6 + self.chance.below(4)).to_string(),
+            5 => fields[0] = (7 + self.chance.below(4)).to_string(),
             6 => {
-                fields[0] = self.drawn(&["6", "7", "10", "255", "256", "4294967295"]).to_string();
+                fields[0] = self.drawn(&["6", "7", "8", "10", "255", "256", "4294967295"]).to_string();
                 fields[1 + place % 2] = self.drawn(&ODD_FIELDS).to_string();
             }
             7 => return self.drawn(&ODD_LINES).as_bytes().to_vec(),

@@ -8,6 +8,7 @@
 mod chance;
 mod drawing;
 mod model;
+mod rules;
 mod schedule;
 mod schedules;
 mod words;
@@ -15,6 +16,7 @@ mod words;
 use chance::Chance;
 use hatukeno::{Board, Refusal, BOARD_WORDS};
 use model::{Fault, Model, Outcome, Step};
+use rules::{Counts, Run};
 use std::path::PathBuf;
 use std::process::exit;
 use words::Words;
@@ -30,6 +32,7 @@ fn put(board: &mut Board, step: Step) -> Result<hatukeno::Outcome, Refusal> {
         Step::Deliver(c, k) => board.deliver(c, k),
         Step::NodeDown(k) => board.node_down(k),
         Step::ConsoleDown(c) => board.console_down(c),
+        Step::NodeUp(k) => board.node_up(k),
     }
 }
 
@@ -79,14 +82,6 @@ fn both(board: &mut Board, model: &mut Model, step: Step, fault: Fault) -> Resul
     })
 }
 
-/// Accepted deliveries of the finished operations on one size.
-#[derive(Clone, Default)]
-struct Taken {
-    finished: u64,
-    sum: u64,
-    most: u64,
-}
-
 /// The same run as one list, twice over with a refused fresh between, on words that are no well-formed board's: the answers
 /// must be the model's, and the last board the one that the steps left one by one.
 fn listed(n: u32, m: u32, steps: &[(Step, Result<Outcome, u32>)], board: &Board) {
@@ -97,6 +92,7 @@ fn listed(n: u32, m: u32, steps: &[(Step, Result<Outcome, u32>)], board: &Board)
         Step::Deliver(console, node) => hatukeno::Step::Deliver { console, node },
         Step::NodeDown(node) => hatukeno::Step::NodeDown { node },
         Step::ConsoleDown(console) => hatukeno::Step::ConsoleDown { console },
+        Step::NodeUp(node) => hatukeno::Step::NodeUp { node },
     }));
     let list = [run.clone(), vec![hatukeno::Step::Fresh { n: 0, m }], run].concat();
     let mut answers = vec![Ok(Outcome::Done)];
@@ -114,41 +110,20 @@ fn listed(n: u32, m: u32, steps: &[(Step, Result<Outcome, u32>)], board: &Board)
 }
 
 /// One run from a fresh board.
-fn run(n: u32, m: u32, crashes: bool, chance: &mut Chance, fault: Fault, taken: &mut Taken) {
+fn run(n: u32, m: u32, crashes: bool, chance: &mut Chance, fault: Fault, counts: &mut Counts) {
     let mut board = Board::fresh(n, m).expect("an allowed size");
     let mut model = Model::fresh(n, m).expect("an allowed size");
     fresh(n, m);
-    let mut open = [None; 8];
-    let bound = 2 * (u64::from(n) + model.majority() as u64);
+    let mut held = Run::fresh(n);
     let mut steps = Vec::new();
     for _ in 0..LENGTH {
         let step = chance.step(n, m, crashes);
+        let before = board.clone();
         let answer = both(&mut board, &mut model, step, fault);
         steps.push((step, answer));
-        let Ok(outcome) = answer else {
-            continue;
-        };
-        match step {
-            Step::BeginRead(c) | Step::BeginWrite(c, _) => open[c as usize] = Some(0),
-            Step::ConsoleDown(c) => open[c as usize] = None,
-            Step::NodeDown(_) => {}
-            Step::Deliver(c, _) => {
-                if let Some(count) = &mut open[c as usize] {
-                    *count += 1;
-                    if *count > bound {
-                        println!("n = {n}, m = {m}: an operation took {count} deliveries, more than {bound}");
-                        exit(1);
-                    }
-                    if let Outcome::Finished(..) = outcome {
-                        taken.finished += 1;
-                        taken.sum += *count;
-                        taken.most = taken.most.max(*count);
-                        open[c as usize] = None;
-                    }
-                }
-            }
-        }
+        held.take(step, answer, &before, &board, counts);
     }
+    held.hold_progress(&board);
     listed(n, m, &steps, &board);
 }
 
@@ -171,7 +146,7 @@ struct Damaged {
 }
 
 impl Damaged {
-    /// Six steps on a board of which so many words were set, each from there.
+    /// Seven steps on a board of which so many words were set, each from there.
     fn put(&mut self, words: Words, set: u32, (n, m): (u32, u32), chance: &mut Chance, fault: Fault) {
         let model = words::read(&words);
         let steps = [
@@ -181,6 +156,7 @@ impl Damaged {
             Step::Deliver(chance.number(m), chance.number(n)),
             Step::NodeDown(chance.number(n)),
             Step::ConsoleDown(chance.number(m)),
+            Step::NodeUp(chance.number(n)),
         ];
         for step in steps {
             both(&mut Board::from_words(words), &mut model.clone(), step, fault).ok();
@@ -244,39 +220,85 @@ fn fresh(n: u32, m: u32) {
     }
 }
 
-/// Both extras of document 01.
-fn extras(fault: Fault) {
-    let expect = |board: &mut Board, model: &mut Model, step: Step, answer: Result<Outcome, u32>| {
-        let got = both(board, model, step, fault);
+/// A board of the library and the model beside it, for runs of which each answer is known.
+struct Known {
+    board: Board,
+    model: Model,
+    fault: Fault,
+}
+
+impl Known {
+    fn fresh(n: u32, m: u32, fault: Fault) -> Known {
+        Known {
+            board: Board::fresh(n, m).expect("an allowed size"),
+            model: Model::fresh(n, m).expect("an allowed size"),
+            fault,
+        }
+    }
+
+    fn expect(&mut self, step: Step, answer: Result<Outcome, u32>) {
+        let got = both(&mut self.board, &mut self.model, step, self.fault);
         if got != answer {
-            println!("extras: {step:?} answered {got:?}, not {answer:?}");
+            println!("{step:?} answered {got:?}, not {answer:?}");
             exit(1);
         }
-    };
-    let pair = || {
-        (
-            Board::fresh(3, 2).expect("an allowed size"),
-            Model::fresh(3, 2).expect("an allowed size"),
-        )
-    };
-
-    let (mut board, mut model) = pair();
-    both(&mut board, &mut model, Step::BeginWrite(1, 7), fault).ok();
-    for k in [0, 0, 2, 2, 0, 0, 2, 2] {
-        both(&mut board, &mut model, Step::Deliver(1, k), fault).ok();
     }
-    expect(&mut board, &mut model, Step::Deliver(1, 1), Ok(Outcome::Handed));
-    expect(&mut board, &mut model, Step::Deliver(1, 1), Ok(Outcome::Discarded));
 
-    let (mut board, mut model) = pair();
-    for step in [Step::NodeDown(0), Step::NodeDown(1), Step::BeginRead(0)] {
-        expect(&mut board, &mut model, step, Ok(Outcome::Done));
+    /// An operation that this step begins goes through by the two nodes, a majority, each answering at once.
+    fn finish(&mut self, c: u32, begin: Step, nodes: [u32; 2], finished: Outcome) {
+        self.expect(begin, Ok(Outcome::Done));
+        for last in [Outcome::Turned, finished] {
+            for (k, heard) in nodes.into_iter().zip([Outcome::Heard, last]) {
+                self.expect(Step::Deliver(c, k), Ok(Outcome::Handed));
+                self.expect(Step::Deliver(c, k), Ok(heard));
+            }
+        }
     }
-    expect(&mut board, &mut model, Step::Deliver(0, 2), Ok(Outcome::Handed));
-    expect(&mut board, &mut model, Step::Deliver(0, 2), Ok(Outcome::Heard));
-    expect(&mut board, &mut model, Step::Deliver(0, 0), Err(9));
-    expect(&mut board, &mut model, Step::Deliver(0, 1), Err(9));
-    expect(&mut board, &mut model, Step::Deliver(0, 2), Err(8));
+
+    /// After these steps console 0 asks, and nodes 0 and 1 of three are down. Once node 2 has answered, no frame can be delivered.
+    fn wait(&mut self, steps: [Step; 3]) {
+        for step in steps {
+            self.expect(step, Ok(Outcome::Done));
+        }
+        self.expect(Step::Deliver(0, 2), Ok(Outcome::Handed));
+        self.expect(Step::Deliver(0, 2), Ok(Outcome::Heard));
+        self.expect(Step::Deliver(0, 0), Err(9));
+        self.expect(Step::Deliver(0, 1), Err(9));
+        self.expect(Step::Deliver(0, 2), Err(8));
+    }
+}
+
+/// Both extras of document 01.
+fn extras(fault: Fault) {
+    let mut board = Known::fresh(3, 2, fault);
+    board.finish(1, Step::BeginWrite(1, 7), [0, 2], Outcome::Finished((1, 1), 7));
+    board.expect(Step::Deliver(1, 1), Ok(Outcome::Handed));
+    board.expect(Step::Deliver(1, 1), Ok(Outcome::Discarded));
+
+    let mut board = Known::fresh(3, 2, fault);
+    board.wait([Step::NodeDown(0), Step::NodeDown(1), Step::BeginRead(0)]);
+}
+
+/// Paper 2. A console waits without a majority, and goes on once a node is back.
+fn node_back(fault: Fault) {
+    let mut board = Known::fresh(3, 1, fault);
+    board.wait([Step::BeginRead(0), Step::NodeDown(0), Step::NodeDown(1)]);
+    board.expect(Step::NodeUp(1), Ok(Outcome::Done));
+    board.expect(Step::Deliver(0, 1), Ok(Outcome::Handed));
+    board.expect(Step::NodeUp(1), Err(14));
+    board.expect(Step::NodeUp(3), Err(5));
+    board.expect(Step::NodeUp(u32::MAX), Err(5));
+    board.expect(Step::Deliver(0, 1), Ok(Outcome::Turned));
+}
+
+/// Paper 2. Of nodes 0 and 1 only node 0 took the write, and a read by these two hears it from there after its down and up.
+fn disk_intact(fault: Fault) {
+    let mut board = Known::fresh(3, 2, fault);
+    let written = Outcome::Finished((1, 1), 7);
+    board.finish(1, Step::BeginWrite(1, 7), [0, 2], written);
+    board.expect(Step::NodeDown(0), Ok(Outcome::Done));
+    board.expect(Step::NodeUp(0), Ok(Outcome::Done));
+    board.finish(0, Step::BeginRead(0), [0, 1], written);
 }
 
 struct Options {
@@ -336,21 +358,47 @@ fn options() -> Options {
     options
 }
 
+/// A row for each size.
+fn print_sizes(counts: &[Counts]) {
+    println!(" n  m  finished  most  mean  2(n + q)");
+    for (i, t) in counts.iter().enumerate() {
+        let (n, m) = (1 + i as u64 / 8, 1 + i as u64 % 8);
+        let mean = t.sum as f64 / t.finished.max(1) as f64;
+        println!("{n:2} {m:2} {:9} {:5} {mean:5.2} {:9}", t.finished, t.most, 2 * (n + n / 2 + 1));
+    }
+}
+
+fn print_node_ups(counts: &[Counts]) {
+    let sum = |of: fn(&Counts) -> u64| counts.iter().map(of).sum::<u64>();
+    println!(
+        "{} node ups were accepted, {} of them with frames waiting for the node; {} times a console with no frame to deliver had one again",
+        sum(|t| t.node_ups),
+        sum(|t| t.waited_for),
+        sum(|t| t.again)
+    );
+    println!(
+        "{} node downs and node ups were refused because the node was so already",
+        sum(|t| t.twice)
+    );
+}
+
 /// The library beside the model: so many steps of runs, and so many damaged boards.
 fn library(steps: u64, boards: u64, seed: u64, fault: Fault) {
     for (n, m) in [(0, 0), (0, 9), (5, 8), (6, 1), (5, 9), (5, 0), (u32::MAX, 1), (1, u32::MAX)] {
         fresh(n, m);
     }
     extras(fault);
+    node_back(fault);
+    disk_intact(fault);
 
     let sizes: Vec<(u32, u32)> = (0..40).map(|i| (1 + i / 8, 1 + i % 8)).collect();
     let mut chance = Chance(seed);
-    let mut taken = vec![Taken::default(); 40];
+    let mut counts = vec![Counts::default(); 40];
     let mut seen = Damaged::default();
     let (mut done, mut crashes) = (0, true);
     while done < steps {
-        for ((n, m), t) in sizes.iter().zip(&mut taken) {
-            run(*n, *m, crashes, &mut chance, fault, t);
+        for ((n, m), of_size) in sizes.iter().zip(&mut counts) {
+            run(*n, *m, crashes, &mut chance, fault, of_size);
             done += u64::from(LENGTH);
         }
         crashes = !crashes;
@@ -362,17 +410,13 @@ fn library(steps: u64, boards: u64, seed: u64, fault: Fault) {
         damaged(&mut chance, fault, &mut seen);
     }
 
-    println!(" n  m  finished  most  mean  2(n + q)");
-    for (i, t) in taken.iter().enumerate() {
-        let (n, m) = (1 + i as u64 / 8, 1 + i as u64 % 8);
-        let mean = t.sum as f64 / t.finished.max(1) as f64;
-        println!("{n:2} {m:2} {:9} {:5} {mean:5.2} {:9}", t.finished, t.most, 2 * (n + n / 2 + 1));
-    }
+    print_sizes(&counts);
     println!("seed {seed}: {done} steps on 40 sizes agree, one by one and as lists");
     println!(
-        "and 6 steps on each of {} damaged boards, {} of them by one word, and of {} that were well formed all the same",
+        "and 7 steps on each of {} damaged boards, {} of them by one word, and of {} that were well formed all the same",
         seen.ill, seen.by_one, seen.well
     );
+    print_node_ups(&counts);
 }
 
 fn main() {

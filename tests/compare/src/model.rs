@@ -1,4 +1,4 @@
-//! The board as document 01 says it, in sets and maps. Nothing here is shared with the library.
+//! The board as document 01 and Paper 2 say it, in sets and maps. Nothing here is shared with the library.
 use std::collections::{BTreeMap, BTreeSet};
 
 pub const MAX_TS: u64 = 4_000_000_000;
@@ -61,6 +61,7 @@ pub enum Step {
     Deliver(u32, u32),
     NodeDown(u32),
     ConsoleDown(u32),
+    NodeUp(u32),
 }
 
 #[derive(Clone, Copy, Debug, PartialEq, Eq)]
@@ -82,7 +83,11 @@ pub const EQUAL_TAKEN: Fault = 4;
 pub const NEXT_AFTER_READ: Fault = 5;
 pub const CELLS_CLEARED: Fault = 6;
 pub const NINE_CONSOLES: Fault = 7;
-pub const LAST_FAULT: Fault = 7;
+pub const DISK_LOST: Fault = 8;
+pub const UP_BEFORE_NUMBER: Fault = 9;
+pub const WAITING_LOST: Fault = 10;
+pub const UP_TWICE: Fault = 11;
+pub const LAST_FAULT: Fault = UP_TWICE;
 
 fn fresh_node() -> Node {
     Node {
@@ -192,7 +197,32 @@ impl Model {
                 next.consoles.insert(c, at_rest(State::Down));
                 Ok((Outcome::Done, next))
             }
+            Step::NodeUp(k) => self.node_up(k, fault),
         }
+    }
+
+    /// The node keeps its tag and value, and the cells stay as they are.
+    fn node_up(&self, k: u32, fault: Fault) -> Result<(Outcome, Model), u32> {
+        let is_up = self.nodes.get(&k).is_some_and(|node| node.up);
+        if fault == UP_BEFORE_NUMBER && is_up {
+            return Err(14);
+        }
+        if k >= self.n {
+            return Err(5);
+        }
+        if fault != UP_TWICE && is_up {
+            return Err(14);
+        }
+        let mut next = self.clone();
+        next.nodes.get_mut(&k).unwrap().up = true;
+        if fault == DISK_LOST {
+            next.nodes.insert(k, fresh_node());
+        }
+        if fault == WAITING_LOST {
+            let goes_to_node = |frame: &Frame| matches!(frame, Frame::Ask | Frame::Put(..));
+            next.cells.retain(|(_, j), frame| *j != k || !goes_to_node(frame));
+        }
+        Ok((Outcome::Done, next))
     }
 
     fn begin(&self, c: u32, kind: Kind, wanted: u32) -> Result<(Outcome, Model), u32> {

@@ -1,5 +1,5 @@
-//! Paper 1's program as the papers say it: the bytes of a whole input, and the bytes of the whole output. Nothing here is shared
-//! with the program. The lines are document 01's ('Lines that programs read and write'), the steps those of model.rs.
+//! The program of Papers 1 and 2 as they say it: the bytes of a whole input, and the bytes of the whole output. Nothing here is
+//! shared with the program. The lines are document 01's ('Lines that programs read and write'), the steps those of model.rs.
 use crate::model::{self, Fault, Model, Outcome, Step};
 use std::io::Write;
 
@@ -24,7 +24,8 @@ pub const NUMBER_WRAPS: Fault = model::LAST_FAULT + 10;
 pub const HALF_QUOTED: Fault = model::LAST_FAULT + 11;
 pub const UNUSED_UNREAD: Fault = model::LAST_FAULT + 12;
 pub const SMALL_BOARD_TAKEN: Fault = model::LAST_FAULT + 13;
-pub const LAST_FAULT: Fault = SMALL_BOARD_TAKEN;
+pub const NODE_UP_UNKNOWN: Fault = model::LAST_FAULT + 14;
+pub const LAST_FAULT: Fault = NODE_UP_UNKNOWN;
 
 /// What a line is answered: the outcome, or the refusal.
 pub type Answer = Result<Outcome, u32>;
@@ -108,7 +109,7 @@ fn is_too_long(line: Line, fault: Fault) -> bool {
 /// Whether the first field is a number that no verb has, whatever the others are.
 fn has_unknown_verb(line: &[u8]) -> bool {
     let first = line.split(|byte| *byte == b',').next().unwrap_or_default();
-    number(first, 0).is_some_and(|verb| verb > 5)
+    number(first, 0).is_some_and(|verb| verb > 6)
 }
 
 /// Verb, first number, second number: exactly three fields, joined by commas.
@@ -119,7 +120,7 @@ fn three_numbers(line: &[u8], fault: Fault) -> Option<[u32; 3]> {
     };
     let verb = number(verb, fault)?;
     let first = number(first, fault)?;
-    if fault == UNUSED_UNREAD && [1, 4, 5].contains(&verb) {
+    if fault == UNUSED_UNREAD && [1, 4, 5, 6].contains(&verb) {
         return Some([verb, first, 0]);
     }
     Some([verb, first, number(second, fault)?])
@@ -153,6 +154,7 @@ fn take(board: &mut Model, [verb, first, second]: [u32; 3], fault: Fault) -> Ans
         3 => Step::Deliver(first, second),
         4 => Step::NodeDown(first),
         5 => Step::ConsoleDown(first),
+        6 if fault != NODE_UP_UNKNOWN => Step::NodeUp(first),
         _ => return Err(UNKNOWN_VERB),
     };
     let (outcome, next) = board.step(step, fault)?;
