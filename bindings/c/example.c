@@ -1,5 +1,5 @@
-/* Console 1 of 2 writes 7 on three nodes; nodes 0 and 2 are a majority, so the write finishes without node 1. Ends with 0 if
- * every answer is the one that is written here. */
+/* Console 1 of 2 writes 7 on three nodes; nodes 0 and 2 are a majority, so the write finishes without node 1, which then goes down
+ * and comes back. Ends with 0 if every answer is the one that is written here. */
 #include "board.h"
 
 static uint32_t words[BOARD_WORDS];
@@ -26,10 +26,10 @@ static int list(void)
     static const uint32_t outcomes[10] = {1, 1, 2, 3, 2, 4, 2, 3, 2, 5};
     static uint32_t answers[10 * ANSWER_WORDS];
     if (board_run(words, BOARD_WORDS, steps, 10 * STEP_WORDS, answers, 10 * ANSWER_WORDS) != 0)
-        return 6;
+        return 9;
     for (int i = 0; i < 10; i++)
         if (answers[i * ANSWER_WORDS] != outcomes[i])
-            return 7;
+            return 10;
     return 0;
 }
 
@@ -47,5 +47,12 @@ int main(void)
     /* there is no console 2: refused by question 4 */
     if (board_begin_read(words, BOARD_WORDS, said, ANSWER_WORDS, 2) != 0 || said[0] != 0 || said[1] != 4)
         return 5;
+    if (board_node_down(words, BOARD_WORDS, said, ANSWER_WORDS, 1) != 0 || said[0] != 1)
+        return 6;
+    if (board_node_up(words, BOARD_WORDS, said, ANSWER_WORDS, 1) != 0 || said[0] != 1)
+        return 7;
+    /* now node 1 is up: refused with 14 */
+    if (board_node_up(words, BOARD_WORDS, said, ANSWER_WORDS, 1) != 0 || said[0] != 0 || said[1] != 14)
+        return 8;
     return list();
 }

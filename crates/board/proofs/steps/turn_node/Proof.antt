@@ -4,6 +4,7 @@ use mathlib.Core.Bool.{Bool, true, false, cond, not, Bool·beq}
 use mathlib.Core.List.{[], _∷_}
 use mathlib.Core.Path.{_≡_, refl, sym, ap, _∙_}
 use native.Mathlib.Omega.{arith}
+use lib.Dec.{ltb}
 use borrow.Author.Needs.{needs}
 use borrow.Author.Tests.{lt-ltb, le-ltb}
 use Rattle.board.proofs.AnswersLaws.{guarded-no, guarded-yes, guarded-end}
@@ -12,6 +13,7 @@ use Rattle.board.specs.Answers.{answer, refuse, guarded, _or-refuse_}
 use Rattle.board.specs.Boards.{nodeAt, withNode}
 use Rattle.board.specs.Questions.{is-well-formed, has-node}
 use Rattle.board.specs.Steps.{nodeDown, nodeUp}
+use Rattle.board.specs.WellFormed.{wellFormed}
 use Rattle.board.specs.declared.Board.{Board}
 use Rattle.parts.specs.declared.Outcome.the-variants.{Done}
 use Rattle.changes.specs.Changes.{withUp}
@@ -35,6 +37,11 @@ last u {x} e h = rw (← e) (by u (x .up) ∙ ap not h)
     by true false = refl
     by false true = refl
     by false false = refl
+
+-- the node is so already
+so-already : (u : Bool) (b : Board) (k : ℕ) {x : Node} → wellFormed b ≡ true → ltb k (b .setup .n) ≡ true → x ≡ nodeAt b k → Bool·beq (x .up) u ≡ true
+    → refuse (cond u 14 9) b ≡ cond u (nodeUp b k) (nodeDown b k)
+so-already u b k w i e h = sym (guarded-yes _ _ _ _ w ∙ guarded-yes _ _ _ _ i ∙ guarded-no _ _ _ _ (last u e h)) ∙ turns u b k
 
 is-well-formed-requires : tie.Need-is-well-formed-requires
 is-well-formed-requires c κs = search needs
@@ -64,7 +71,7 @@ refused-requires-3 c κs = search needs
 returns-3 : tie.Need-returns-3
 returns-3 c =
     let a = c .before .before .before .before .before .before .before .before .before .before .args in
-    c .refused3 .ensures ∙ ap (λ (u : Bool). refuse (cond u 14 9) (a .b)) (sym (c .before .if4 .taken)) ∙ sym (guarded-yes _ _ _ _ (said-yes (c .before .before .before .before .before .before .before .before .before .is-well-formed .ensures) (c .before .before .before .before .before .before .before .before .if1 .left)) ∙ guarded-yes _ _ _ _ (lt-ltb _ _ (c .before .before .before .before .before .if2 .left)) ∙ guarded-no _ _ _ _ (last (a .up) (c .before .before .before .before .node-at .ensures) (c .before .before .if3 .taken))) ∙ turns (a .up) (a .b) (a .k .0)
+    c .refused3 .ensures ∙ ap (λ (u : Bool). refuse (cond u 14 9) (a .b)) (sym (c .before .if4 .taken)) ∙ so-already (a .up) (a .b) (a .k .0) (said-yes (c .before .before .before .before .before .before .before .before .before .is-well-formed .ensures) (c .before .before .before .before .before .before .before .before .if1 .left)) (lt-ltb _ _ (c .before .before .before .before .before .if2 .left)) (c .before .before .before .before .node-at .ensures) (c .before .before .if3 .taken)
 
 refused-requires-4 : tie.Need-refused-requires-4
 refused-requires-4 c κs = search needs
@@ -72,7 +79,7 @@ refused-requires-4 c κs = search needs
 returns-4 : tie.Need-returns-4
 returns-4 c =
     let a = c .before .before .before .before .before .before .before .before .before .before .args in
-    c .refused4 .ensures ∙ ap (λ (u : Bool). refuse (cond u 14 9) (a .b)) (sym (c .before .if4 .left)) ∙ sym (guarded-yes _ _ _ _ (said-yes (c .before .before .before .before .before .before .before .before .before .is-well-formed .ensures) (c .before .before .before .before .before .before .before .before .if1 .left)) ∙ guarded-yes _ _ _ _ (lt-ltb _ _ (c .before .before .before .before .before .if2 .left)) ∙ guarded-no _ _ _ _ (last (a .up) (c .before .before .before .before .node-at .ensures) (c .before .before .if3 .taken))) ∙ turns (a .up) (a .b) (a .k .0)
+    c .refused4 .ensures ∙ ap (λ (u : Bool). refuse (cond u 14 9) (a .b)) (sym (c .before .if4 .left)) ∙ so-already (a .up) (a .b) (a .k .0) (said-yes (c .before .before .before .before .before .before .before .before .before .is-well-formed .ensures) (c .before .before .before .before .before .before .before .before .if1 .left)) (lt-ltb _ _ (c .before .before .before .before .before .if2 .left)) (c .before .before .before .before .node-at .ensures) (c .before .before .if3 .taken)
 
 set-up-requires : tie.Need-set-up-requires
 set-up-requires c κs = search needs
