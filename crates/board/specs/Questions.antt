@@ -1,5 +1,6 @@
 -- The ten questions of document 01, 'Questions put before each step', in their order, each with the number of its refusal,
--- and after them those of document 02. This is the table of refusal numbers; the steps say which of them they ask.
+-- and after them node up's. This is the table of the steps' refusal numbers; the steps say which of them they ask. 11 to 13 are those of
+-- lines and verbs, and stand there.
 use Prim.Native.Nat.{ℕ}
 use mathlib.Core.Bool.{not}
 use lib.Dec.{ltb}

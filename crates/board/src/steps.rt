@@ -43,14 +43,14 @@ impl Board {
     pub fn node_down(self, k: NodeId) -> Answer
         ensures { λ r. ⌜ r ≡ nodeDown self (k .0) ⌝ }
     {
-        turn_node(self, k, false)
+        switch_node(self, k, false)
     }
 
     // Node k comes back with the tag and value that it held; frames waiting for it can be delivered again.
     pub fn node_up(self, k: NodeId) -> Answer
         ensures { λ r. ⌜ r ≡ nodeUp self (k .0) ⌝ }
     {
-        turn_node(self, k, true)
+        switch_node(self, k, true)
     }
 
     // Console c goes down for good: its operation is gone, its frames stay in their cells.
@@ -103,7 +103,7 @@ fn begun_at(b: Board, c: ConsoleId, w: Kind, v: u32) -> Board
 }
 
 // Node k goes down or comes back; it is refused if it is so already.
-fn turn_node(b: Board, k: NodeId, up: bool) -> Answer
+fn switch_node(b: Board, k: NodeId, up: bool) -> Answer
     ensures { λ r. ⌜ r ≡ cond up (nodeUp b (k .0)) (nodeDown b (k .0)) ⌝ }
 {
     if !b.is_well_formed() {

@@ -64,11 +64,6 @@ back-refused : map (λ k. deliver (whole 3 1 back-steps .board) 0 k .refusal) (0
 unfolding whole back-steps back-refusals
 back-refused = refl
 
--- and that follows from demand 3
-back-goes-on : HasDeliverable 3 (whole 3 1 back-steps) 0
-unfolding whole back-steps writesBegun tally majority
-back-goes-on = demand-3 3 1 (omega arith) (omega arith) (omega arith) (omega arith) back-steps (omega arith) .progress (omega arith) 0 (here (refl, refl))
-
 all-back-up : count 3 (whole 3 1 all-back-steps .up) ≡ 3
 unfolding whole all-back-steps
 all-back-up = refl
@@ -76,6 +71,15 @@ all-back-up = refl
 all-back-refused : map (λ k. deliver (whole 3 1 all-back-steps .board) 0 k .refusal) (0 ∷ 1 ∷ 2 ∷ []) ≡ all-back-refusals
 unfolding whole all-back-steps all-back-refusals
 all-back-refused = refl
+
+-- and so it must be, by demand 3
+back-goes-on : HasDeliverable 3 (whole 3 1 back-steps) 0
+unfolding whole back-steps writesBegun tally majority
+back-goes-on = demand-3 3 1 (omega arith) (omega arith) (omega arith) (omega arith) back-steps (omega arith) .progress (omega arith) 0 (here (refl, refl))
+
+all-back-goes-on : HasDeliverable 3 (whole 3 1 all-back-steps) 0
+unfolding whole all-back-steps writesBegun tally majority
+all-back-goes-on = demand-3 3 1 (omega arith) (omega arith) (omega arith) (omega arith) all-back-steps (omega arith) .progress (omega arith) 0 (here (refl, refl))
 
 mixed-logged : whole 1 2 mixed-steps .ops ≡ mixed-log
 unfolding whole mixed-steps mixed-log

@@ -1,4 +1,4 @@
--- What the begins, the downs and a fresh board do.
+-- What the begins, the downs, node up and a fresh board do.
 use Prim.Native.Nat.{ℕ, zero, suc, _≤_, _<_}
 use mathlib.Core.Bool.{Bool, true, cond}
 use mathlib.Core.Path.{refl, ap, _≡_}

@@ -1,4 +1,4 @@
--- Each of the five kinds of step keeps the invariant, and so does every run.
+-- Each of the six kinds of step keeps the invariant, and so does every run.
 use Prim.Native.Nat.{ℕ, _+_, _<_}
 use mathlib.Core.Bool.{Bool, true, false, cond}
 use mathlib.Core.List.{List, map, _∷_, []}
@@ -28,7 +28,7 @@ use Rattle.guarantee.proofs.Tags.{key}
 use Rattle.guarantee.proofs.Sizes.{Allowed}
 use Rattle.guarantee.proofs.States.{asking-waits, contra, turns}
 use Rattle.guarantee.proofs.Shapes.{m-is, n-is}
-use Rattle.guarantee.proofs.Views.{Begun, Consoles-down, Nodes-turn, Ranged, begins, consoles-down, delivered, did-begin, did-console, did-node, fresh-made, no-begin, no-console, no-node, nodes-down, nodes-up}
+use Rattle.guarantee.proofs.Views.{Begun, Consoles-down, Ranged, Switched, begins, consoles-down, delivered, did-begin, did-console, did-node, fresh-made, no-begin, no-console, no-node, nodes-down, nodes-up}
 use Rattle.guarantee.proofs.Boards.{BoardOk, Good, TagKind, beside-console, board-up}
 use Rattle.guarantee.proofs.Consoles.{Fair, hears-kind, next-good}
 use Rattle.guarantee.proofs.Effects.{Own, ends-now, goesOn, going, reply-kind, turns-now}
@@ -149,7 +149,7 @@ module _ {σ : Setup} (r : Run) (h : Inv σ r) where
       → ((j : ℕ) → j < σ .n → nodeAt b′ j .up ≡ u j) → Inv σ (stepped r b′ l u)
   inv-same b′ l u es f = inv-step r b′ l u h (f (Known σ l) (known-fair σ l al) (board-up (known-moves es) (h .ok))) es
 
-  inv-node : (s : Step) (u : Bool) (k : ℕ) {a : Answer} → Nodes-turn u (r .board) k a
+  inv-node : (s : Step) (u : Bool) (k : ℕ) {a : Answer} → Switched u (r .board) k a
       → ((o : Outcome) → noted (r .place) s o (r .ops) ≡ r .ops) → ((j : ℕ) → upAfter s (r .up) j ≡ cond (eqb j k) u (r .up j))
       → Inv σ (follow r s a)
   inv-node s u k no-node q z = inv-refused r h

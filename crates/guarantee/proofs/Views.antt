@@ -125,24 +125,25 @@ begins b c w v = questions (Begun b c w v) _ (λ _. no-begin) yes
     yes : All Yes (is-well-formed b ∷ has-console b c ∷ console-is-up b c ∷ console-is-idle b c ∷ []) → Begun b c w v (answer Done (begun b c w v))
     yes (_ also cm also _ also i also none) = did-begin (ltb-true c (b .setup .m) cm) (idle-is (consoleAt b c .state) i)
 
--- a node turns up or down
-pub data Nodes-turn (u : Bool) (b : Board) (k : ℕ) : Answer → Type 0 where
-  no-node : {r : ℕ} → Nodes-turn u b k (refuse r b)
-  did-node : k < b .setup .n → Nodes-turn u b k (answer Done (withNode b k (withUp u (nodeAt b k))))
+-- a node goes down or comes back
+pub data Switched (u : Bool) (b : Board) (k : ℕ) : Answer → Type 0 where
+  no-node : {r : ℕ} → Switched u b k (refuse r b)
+  did-node : k < b .setup .n → Switched u b k (answer Done (withNode b k (withUp u (nodeAt b k))))
 
-pub nodes-down : (b : Board) (k : ℕ) → Nodes-turn false b k (nodeDown b k)
+-- whatever the last question is
+switches : (u : Bool) (b : Board) (k : ℕ) (q : Question) → Switched u b k (guarded (is-well-formed b ∷ has-node b k ∷ q ∷ []) b (answer Done (withNode b k (withUp u (nodeAt b k)))))
+switches u b k q = questions (Switched u b k) _ (λ _. no-node) yes
+  where
+    yes : All Yes (is-well-formed b ∷ has-node b k ∷ q ∷ []) → Switched u b k (answer Done (withNode b k (withUp u (nodeAt b k))))
+    yes (_ also kn also _ also none) = did-node (ltb-true k (b .setup .n) kn)
+
+pub nodes-down : (b : Board) (k : ℕ) → Switched false b k (nodeDown b k)
 unfolding nodeDown
-nodes-down b k = questions (Nodes-turn false b k) _ (λ _. no-node) yes
-  where
-    yes : All Yes (is-well-formed b ∷ has-node b k ∷ node-is-up b k ∷ []) → Nodes-turn false b k (answer Done (withNode b k (withUp false (nodeAt b k))))
-    yes (_ also kn also _ also none) = did-node (ltb-true k (b .setup .n) kn)
+nodes-down b k = switches false b k (node-is-up b k)
 
-pub nodes-up : (b : Board) (k : ℕ) → Nodes-turn true b k (nodeUp b k)
+pub nodes-up : (b : Board) (k : ℕ) → Switched true b k (nodeUp b k)
 unfolding nodeUp
-nodes-up b k = questions (Nodes-turn true b k) _ (λ _. no-node) yes
-  where
-    yes : All Yes (is-well-formed b ∷ has-node b k ∷ node-is-down b k ∷ []) → Nodes-turn true b k (answer Done (withNode b k (withUp true (nodeAt b k))))
-    yes (_ also kn also _ also none) = did-node (ltb-true k (b .setup .n) kn)
+nodes-up b k = switches true b k (node-is-down b k)
 
 pub data Consoles-down (b : Board) (c : ℕ) : Answer → Type 0 where
   no-console : {r : ℕ} → Consoles-down b c (refuse r b)

@@ -136,7 +136,7 @@ after r (s ∷ ss) = after (next r s) ss
 unfoldable pub start : ℕ → ℕ → Run
 start n m = record { place = 1; board = fresh (setupOf n m) .board; ops = []; up = λ _. true }
 
--- 'A run from a fresh board is a list of the five kinds of step', and of the sixth
+-- 'A run from a fresh board is a list of the five kinds of step'; node up 'joins the five'
 unfoldable pub run : ℕ → ℕ → List Step → Run
 run n m ss = after (start n m) ss
 

@@ -61,17 +61,16 @@ stuck-log = record { console = 0; wrote = false; began = 3; took = 2; turned = f
 unfoldable pub stuck-refusals : List ℕ
 stuck-refusals = 9 ∷ 9 ∷ 8 ∷ []
 
--- and on from there: of the majority that went down node 1 comes back, so that just q are up; a second node down before it
--- and a second node up after it are refused
+-- and on from there: of the majority that went down node 1 comes back, and just q are up
 unfoldable pub back-steps : List Step
 unfolding stuck-steps
-back-steps = stuck-steps ++ (NodeDown 1 ∷ NodeUp 1 ∷ NodeUp 1 ∷ [])
+back-steps = stuck-steps ++ (NodeUp 1 ∷ [])
 
--- now node 1's ask can be delivered
+-- its ask can be delivered
 unfoldable pub back-refusals : List ℕ
 back-refusals = 9 ∷ 0 ∷ 8 ∷ []
 
--- and then node 0, and its ask too
+-- then node 0 comes back too
 unfoldable pub all-back-steps : List Step
 unfolding back-steps
 all-back-steps = back-steps ++ (NodeUp 0 ∷ [])

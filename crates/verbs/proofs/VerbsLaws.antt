@@ -1,5 +1,5 @@
 -- Laws of the verbs.
-use Prim.Native.Nat.{ℕ, zero, suc, _≤_, _<_}
+use Prim.Native.Nat.{ℕ, zero, suc, _≤_}
 use mathlib.Core.Path.{_≡_, refl}
 use native.Mathlib.Omega.{arith}
 use Rattle.board.specs.declared.Board.{Board}
@@ -16,7 +16,3 @@ no-such-verb (suc (suc (suc (suc zero)))) x y b h = absurd (omega arith)
 no-such-verb (suc (suc (suc (suc (suc zero))))) x y b h = absurd (omega arith)
 no-such-verb (suc (suc (suc (suc (suc (suc zero)))))) x y b h = absurd (omega arith)
 no-such-verb (suc (suc (suc (suc (suc (suc (suc z))))))) x y b h = refl
-
--- omega takes at most six of the arms' numbers apart at once; this is one more
-pub past : (n z : ℕ) → n ≤ z → (z ≡ n → ⊥) → n < z
-past n z h e = omega arith

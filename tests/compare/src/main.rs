@@ -114,7 +114,7 @@ fn run(n: u32, m: u32, crashes: bool, chance: &mut Chance, fault: Fault, counts:
     let mut board = Board::fresh(n, m).expect("an allowed size");
     let mut model = Model::fresh(n, m).expect("an allowed size");
     fresh(n, m);
-    let mut held = Run::fresh(n);
+    let mut held = Run::fresh(n, fault);
     let mut steps = Vec::new();
     for _ in 0..LENGTH {
         let step = chance.step(n, m, crashes);
@@ -123,7 +123,6 @@ fn run(n: u32, m: u32, crashes: bool, chance: &mut Chance, fault: Fault, counts:
         steps.push((step, answer));
         held.take(step, answer, &before, &board, counts);
     }
-    held.hold_progress(&board);
     listed(n, m, &steps, &board);
 }
 
@@ -224,20 +223,18 @@ fn fresh(n: u32, m: u32) {
 struct Known {
     board: Board,
     model: Model,
-    fault: Fault,
 }
 
 impl Known {
-    fn fresh(n: u32, m: u32, fault: Fault) -> Known {
+    fn fresh(n: u32, m: u32) -> Known {
         Known {
             board: Board::fresh(n, m).expect("an allowed size"),
             model: Model::fresh(n, m).expect("an allowed size"),
-            fault,
         }
     }
 
     fn expect(&mut self, step: Step, answer: Result<Outcome, u32>) {
-        let got = both(&mut self.board, &mut self.model, step, self.fault);
+        let got = both(&mut self.board, &mut self.model, step, 0);
         if got != answer {
             println!("{step:?} answered {got:?}, not {answer:?}");
             exit(1);
@@ -269,19 +266,19 @@ impl Known {
 }
 
 /// Both extras of document 01.
-fn extras(fault: Fault) {
-    let mut board = Known::fresh(3, 2, fault);
+fn extras() {
+    let mut board = Known::fresh(3, 2);
     board.finish(1, Step::BeginWrite(1, 7), [0, 2], Outcome::Finished((1, 1), 7));
     board.expect(Step::Deliver(1, 1), Ok(Outcome::Handed));
     board.expect(Step::Deliver(1, 1), Ok(Outcome::Discarded));
 
-    let mut board = Known::fresh(3, 2, fault);
+    let mut board = Known::fresh(3, 2);
     board.wait([Step::NodeDown(0), Step::NodeDown(1), Step::BeginRead(0)]);
 }
 
 /// Paper 2. A console waits without a majority, and goes on once a node is back.
-fn node_back(fault: Fault) {
-    let mut board = Known::fresh(3, 1, fault);
+fn node_back() {
+    let mut board = Known::fresh(3, 1);
     board.wait([Step::BeginRead(0), Step::NodeDown(0), Step::NodeDown(1)]);
     board.expect(Step::NodeUp(1), Ok(Outcome::Done));
     board.expect(Step::Deliver(0, 1), Ok(Outcome::Handed));
@@ -292,8 +289,8 @@ fn node_back(fault: Fault) {
 }
 
 /// Paper 2. Of nodes 0 and 1 only node 0 took the write, and a read by these two hears it from there after its down and up.
-fn disk_intact(fault: Fault) {
-    let mut board = Known::fresh(3, 2, fault);
+fn disk_intact() {
+    let mut board = Known::fresh(3, 2);
     let written = Outcome::Finished((1, 1), 7);
     board.finish(1, Step::BeginWrite(1, 7), [0, 2], written);
     board.expect(Step::NodeDown(0), Ok(Outcome::Done));
@@ -368,18 +365,28 @@ fn print_sizes(counts: &[Counts]) {
     }
 }
 
+/// The counts of all sizes together.
+fn sum(counts: &[Counts], of: fn(&Counts) -> u64) -> u64 {
+    counts.iter().map(of).sum()
+}
+
 fn print_node_ups(counts: &[Counts]) {
-    let sum = |of: fn(&Counts) -> u64| counts.iter().map(of).sum::<u64>();
     println!(
         "{} node ups were accepted, {} of them with frames waiting for the node; {} times a console with no frame to deliver had one again",
-        sum(|t| t.node_ups),
-        sum(|t| t.waited_for),
-        sum(|t| t.again)
+        sum(counts, |t| t.node_ups),
+        sum(counts, |t| t.waited_for),
+        sum(counts, |t| t.again)
     );
     println!(
         "{} node downs and node ups were refused because the node was so already",
-        sum(|t| t.twice)
+        sum(counts, |t| t.twice)
     );
+}
+
+/// Whether nodes came back with frames waiting for them and with none, twice in a row, and so that a console went on.
+fn shows_node_ups(counts: &[Counts]) -> bool {
+    let ways: [fn(&Counts) -> u64; 4] = [|t| t.waited_for, |t| t.node_ups - t.waited_for, |t| t.twice, |t| t.again];
+    ways.into_iter().all(|way| sum(counts, way) > 0)
 }
 
 /// The library beside the model: so many steps of runs, and so many damaged boards.
@@ -387,9 +394,12 @@ fn library(steps: u64, boards: u64, seed: u64, fault: Fault) {
     for (n, m) in [(0, 0), (0, 9), (5, 8), (6, 1), (5, 9), (5, 0), (u32::MAX, 1), (1, u32::MAX)] {
         fresh(n, m);
     }
-    extras(fault);
-    node_back(fault);
-    disk_intact(fault);
+    // A fault is to be found by the runs by chance.
+    if fault == 0 {
+        extras();
+        node_back();
+        disk_intact();
+    }
 
     let sizes: Vec<(u32, u32)> = (0..40).map(|i| (1 + i / 8, 1 + i % 8)).collect();
     let mut chance = Chance(seed);
@@ -417,6 +427,10 @@ fn library(steps: u64, boards: u64, seed: u64, fault: Fault) {
         seen.ill, seen.by_one, seen.well
     );
     print_node_ups(&counts);
+    if done > 0 && !shows_node_ups(&counts) {
+        println!("the runs do not show node ups in every way that is to be compared");
+        exit(1);
+    }
 }
 
 fn main() {
@@ -429,8 +443,8 @@ fn main() {
         }
         return;
     }
-    // A fault of the board is to be found by its steps, one of the rules for lines by schedules.
-    let lines = if (1..=model::LAST_FAULT).contains(&fault) {
+    // A fault of the board or of demand 3's rules is to be found by its steps, one of the rules for lines by schedules.
+    let lines = if (1..=rules::LAST_FAULT).contains(&fault) {
         0
     } else {
         options.lines
@@ -439,7 +453,7 @@ fn main() {
         eprintln!("compare: there is no program {}; rt check rack writes it", options.rack.display());
         exit(2);
     }
-    if fault <= model::LAST_FAULT {
+    if fault <= rules::LAST_FAULT {
         library(options.steps, options.damaged, seed, fault);
     }
     if lines > 0 {

@@ -74,7 +74,7 @@ pub enum Outcome {
     Discarded,
 }
 
-/// A deliberate fault, to show that a comparison can fail. 0 is none; those after the last here are in schedule.rs.
+/// A deliberate fault, to show that a comparison can fail. 0 is none; those after the last here are in rules.rs and schedule.rs.
 pub type Fault = u32;
 pub const READ_UNTOLD: Fault = 1;
 pub const TS_ONLY: Fault = 2;

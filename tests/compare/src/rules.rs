@@ -1,9 +1,15 @@
-//! Two of demand 3's rules, held to a run of the library by its steps and their answers alone: the delivery bound, and the progress
-//! rule with Paper 2's majority.
-use crate::model::{Outcome, Step};
+//! Demand 3's three rules, held to a run of the library by its steps and their answers alone: the progress rule with Paper 2's
+//! majority after each accepted step, the delivery bound at each delivery, the freshness rule at each finish.
+use crate::model::{self, Fault, Outcome, Step, Tag};
 use hatukeno::{Board, Refusal};
 use std::collections::{BTreeMap, BTreeSet};
 use std::process::exit;
+
+/// Faults in the rules, after those of the model: to show that a rule can be broken.
+pub const BOUND_ONE_LESS: Fault = model::LAST_FAULT + 1;
+pub const MAJORITY_ONE_LESS: Fault = model::LAST_FAULT + 2;
+pub const READS_HIGHER: Fault = model::LAST_FAULT + 3;
+pub const LAST_FAULT: Fault = READS_HIGHER;
 
 /// What was seen in the runs on one size.
 #[derive(Clone, Default)]
@@ -21,23 +27,34 @@ pub struct Counts {
     pub twice: u64,
 }
 
-/// A run so far: which machines are down, and for each console with an operation open the accepted deliveries since its begin.
+/// An open operation: the accepted deliveries since its begin, and the highest final tag before it.
+struct Open {
+    wrote: bool,
+    taken: u64,
+    before: Option<Tag>,
+}
+
+/// A run so far: which machines are down, the open operation of each console that has one, and the highest final tag.
 pub struct Run {
     n: u32,
+    fault: Fault,
     down: BTreeSet<u32>,
-    open: BTreeMap<u32, u64>,
+    open: BTreeMap<u32, Open>,
+    highest: Option<Tag>,
 }
 
 impl Run {
-    pub fn fresh(n: u32) -> Run {
+    pub fn fresh(n: u32, fault: Fault) -> Run {
         Run {
             n,
+            fault,
             down: BTreeSet::new(),
             open: BTreeMap::new(),
+            highest: None,
         }
     }
 
-    /// Takes in a step with its answer, from one board of the library to the next.
+    /// Takes in a step with its answer, from one board of the library to the next. If a rule is broken, that ends the program.
     pub fn take(&mut self, step: Step, answer: Result<Outcome, u32>, from: &Board, to: &Board, counts: &mut Counts) {
         match (step, answer) {
             (_, Ok(outcome)) => self.accept(step, outcome, from, to, counts),
@@ -48,9 +65,8 @@ impl Run {
 
     fn accept(&mut self, step: Step, outcome: Outcome, from: &Board, to: &Board, counts: &mut Counts) {
         match step {
-            Step::BeginRead(c) | Step::BeginWrite(c, _) => {
-                self.open.insert(c, 0);
-            }
+            Step::BeginRead(c) => self.begin(c, false),
+            Step::BeginWrite(c, _) => self.begin(c, true),
             Step::ConsoleDown(c) => {
                 self.open.remove(&c);
             }
@@ -60,37 +76,53 @@ impl Run {
             }
             Step::NodeUp(k) => {
                 self.down.remove(&k);
-                self.hold_progress(to);
                 counts.node_ups += 1;
                 counts.waited_for += u64::from(is_waited_for(k, from));
-                if self.is_majority_up() {
-                    counts.again += self.stuck(from).count() as u64;
-                }
+                counts.again += self.stuck(from).filter(|c| self.has_frame(*c, to)).count() as u64;
             }
         }
+        self.hold_progress(to);
+    }
+
+    fn begin(&mut self, c: u32, wrote: bool) {
+        let before = self.highest;
+        self.open.insert(c, Open { wrote, taken: 0, before });
     }
 
     fn deliver(&mut self, c: u32, outcome: Outcome, counts: &mut Counts) {
-        let bound = 2 * u64::from(self.n + self.majority());
-        let Some(count) = self.open.get_mut(&c) else {
+        let most = 2 * u64::from(self.n + self.majority()) - u64::from(self.fault == BOUND_ONE_LESS);
+        let Some(operation) = self.open.get_mut(&c) else {
             return;
         };
-        *count += 1;
-        if *count > bound {
-            println!("n = {}: an operation took {count} deliveries, more than {bound}", self.n);
+        operation.taken += 1;
+        let taken = operation.taken;
+        if taken > most {
+            println!("n = {}: an operation took {taken} deliveries, more than {most}", self.n);
             exit(1);
         }
-        if let Outcome::Finished(..) = outcome {
+        if let Outcome::Finished(tag, _) = outcome {
             counts.finished += 1;
-            counts.sum += *count;
-            counts.most = counts.most.max(*count);
-            self.open.remove(&c);
+            counts.sum += taken;
+            counts.most = counts.most.max(taken);
+            self.finish(c, tag);
         }
     }
 
-    /// The progress rule on the list so far, which led to this board. If it is broken, that ends the program.
-    pub fn hold_progress(&self, board: &Board) {
-        if !self.is_majority_up() {
+    fn finish(&mut self, c: u32, tag: Tag) {
+        let Some(operation) = self.open.remove(&c) else {
+            return;
+        };
+        let higher = operation.wrote || self.fault == READS_HIGHER;
+        if Some(tag) < operation.before || higher && Some(tag) == operation.before {
+            println!("console {c} finished with tag {tag:?} after {:?} was finished", operation.before);
+            exit(1);
+        }
+        self.highest = self.highest.max(Some(tag));
+    }
+
+    fn hold_progress(&self, board: &Board) {
+        let up = self.n - self.down.len() as u32;
+        if up + u32::from(self.fault == MAJORITY_ONE_LESS) < self.majority() {
             return;
         }
         if let Some(c) = self.stuck(board).next() {
@@ -103,16 +135,15 @@ impl Run {
 
     /// The consoles with an operation open and no frame that can be delivered on this board.
     fn stuck<'a>(&'a self, board: &'a Board) -> impl Iterator<Item = u32> + 'a {
-        let has_frame = |c: u32| (0..self.n).any(|k| board.clone().deliver(c, k).is_ok());
-        self.open.keys().copied().filter(move |c| !has_frame(*c))
+        self.open.keys().copied().filter(|c| !self.has_frame(*c, board))
+    }
+
+    fn has_frame(&self, c: u32, board: &Board) -> bool {
+        (0..self.n).any(|k| board.clone().deliver(c, k).is_ok())
     }
 
     fn majority(&self) -> u32 {
         self.n / 2 + 1
-    }
-
-    fn is_majority_up(&self) -> bool {
-        self.n - self.down.len() as u32 >= self.majority()
     }
 }
 

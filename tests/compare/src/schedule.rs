@@ -1,6 +1,7 @@
 //! The program of Papers 1 and 2 as they say it: the bytes of a whole input, and the bytes of the whole output. Nothing here is
 //! shared with the program. The lines are document 01's ('Lines that programs read and write'), the steps those of model.rs.
-use crate::model::{self, Fault, Model, Outcome, Step};
+use crate::model::{Fault, Model, Outcome, Step};
+use crate::rules;
 use std::io::Write;
 
 /// The most bytes of a line, its end not counted.
@@ -11,20 +12,20 @@ const NOT_THREE_FIELDS: u32 = 11;
 const UNKNOWN_VERB: u32 = 12;
 
 /// Faults in the rules for lines; their numbers go on from those of the board.
-pub const LIMIT_63: Fault = model::LAST_FAULT + 1;
-pub const LIMIT_65: Fault = model::LAST_FAULT + 2;
-pub const CR_COUNTED: Fault = model::LAST_FAULT + 3;
-pub const LAST_CR_LEFT_OFF: Fault = model::LAST_FAULT + 4;
-pub const BOTH_CRS_LEFT_OFF: Fault = model::LAST_FAULT + 5;
-pub const LAST_LINE_LOST: Fault = model::LAST_FAULT + 6;
-pub const EMPTY_UNANSWERED: Fault = model::LAST_FAULT + 7;
-pub const FIELDS_BEFORE_LENGTH: Fault = model::LAST_FAULT + 8;
-pub const VERB_BEFORE_FIELDS: Fault = model::LAST_FAULT + 9;
-pub const NUMBER_WRAPS: Fault = model::LAST_FAULT + 10;
-pub const HALF_QUOTED: Fault = model::LAST_FAULT + 11;
-pub const UNUSED_UNREAD: Fault = model::LAST_FAULT + 12;
-pub const SMALL_BOARD_TAKEN: Fault = model::LAST_FAULT + 13;
-pub const NODE_UP_UNKNOWN: Fault = model::LAST_FAULT + 14;
+pub const LIMIT_63: Fault = rules::LAST_FAULT + 1;
+pub const LIMIT_65: Fault = rules::LAST_FAULT + 2;
+pub const CR_COUNTED: Fault = rules::LAST_FAULT + 3;
+pub const LAST_CR_LEFT_OFF: Fault = rules::LAST_FAULT + 4;
+pub const BOTH_CRS_LEFT_OFF: Fault = rules::LAST_FAULT + 5;
+pub const LAST_LINE_LOST: Fault = rules::LAST_FAULT + 6;
+pub const EMPTY_UNANSWERED: Fault = rules::LAST_FAULT + 7;
+pub const FIELDS_BEFORE_LENGTH: Fault = rules::LAST_FAULT + 8;
+pub const VERB_BEFORE_FIELDS: Fault = rules::LAST_FAULT + 9;
+pub const NUMBER_WRAPS: Fault = rules::LAST_FAULT + 10;
+pub const HALF_QUOTED: Fault = rules::LAST_FAULT + 11;
+pub const UNUSED_UNREAD: Fault = rules::LAST_FAULT + 12;
+pub const SMALL_BOARD_TAKEN: Fault = rules::LAST_FAULT + 13;
+pub const NODE_UP_UNKNOWN: Fault = rules::LAST_FAULT + 14;
 pub const LAST_FAULT: Fault = NODE_UP_UNKNOWN;
 
 /// What a line is answered: the outcome, or the refusal.

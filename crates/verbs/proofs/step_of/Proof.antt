@@ -1,11 +1,16 @@
 -- Each arm is a case of the definition.
-use mathlib.Core.Path.{_∙_}
+use Prim.Native.Nat.{ℕ, _≤_, _<_}
+use mathlib.Core.Path.{_≡_, _∙_}
 use native.Mathlib.Omega.{arith}
-use Rattle.verbs.proofs.VerbsLaws.{no-such-verb, past}
+use Rattle.verbs.proofs.VerbsLaws.{no-such-verb}
 use Rattle.verbs.specs.Verbs.{stepOf}
 use borrow.Author.Needs.{needs}
 use Rattle.verbs.proofs.step_of.Statement.{statement}
 use Rattle.verbs.proofs.step_of.Tie as tie
+
+-- omega takes at most six of the arms' numbers apart at once; this is one more
+le-ne-lt : (n z : ℕ) → n ≤ z → (z ≡ n → ⊥) → n < z
+le-ne-lt n z h e = omega arith
 
 fresh-requires : tie.Need-fresh-requires
 fresh-requires c κs = search needs
@@ -60,7 +65,7 @@ unfolding stepOf
 returns-7 c = rw (c .before .match .keys7) (c .node-up .ensures)
 
 returns-8 : tie.Need-returns-8
-returns-8 c = c .refused .ensures ∙ no-such-verb _ _ _ _ (past 6 _ (omega (arith, c .before .match .rest .0)) (c .before .match .rest .1))
+returns-8 c = c .refused .ensures ∙ no-such-verb _ _ _ _ (le-ne-lt 6 _ (omega (arith, c .before .match .rest .0)) (c .before .match .rest .1))
 
 pub step-of-spec : {M : Type 1} → statement M
 step-of-spec =

@@ -19,18 +19,18 @@ use Rattle.parts.specs.declared.Outcome.the-variants.{Done}
 use Rattle.changes.specs.Changes.{withUp}
 use Rattle.parts.proofs.FiniteLaws.{said-no, said-yes}
 use Rattle.parts.specs.declared.Node.{Node}
-use Rattle.board.proofs.steps.turn_node.Statement.{statement}
-use Rattle.board.proofs.steps.turn_node.Tie as tie
+use Rattle.board.proofs.steps.switch_node.Statement.{statement}
+use Rattle.board.proofs.steps.switch_node.Tie as tie
 
--- the two steps as one: where u is true the node comes back
-turns : (u : Bool) (b : Board) (k : ℕ) → guarded (is-well-formed b ∷ has-node b k ∷ (cond u (not (nodeAt b k .up)) (nodeAt b k .up) or-refuse cond u 14 9) ∷ []) b (answer Done (withNode b k (withUp u (nodeAt b k)))) ≡ cond u (nodeUp b k) (nodeDown b k)
+-- the two steps as one; where u is true the node comes back
+switches : (u : Bool) (b : Board) (k : ℕ) → guarded (is-well-formed b ∷ has-node b k ∷ (cond u (not (nodeAt b k .up)) (nodeAt b k .up) or-refuse cond u 14 9) ∷ []) b (answer Done (withNode b k (withUp u (nodeAt b k)))) ≡ cond u (nodeUp b k) (nodeDown b k)
 unfolding nodeUp nodeDown
-turns true b k = refl
-turns false b k = refl
+switches true b k = refl
+switches false b k = refl
 
 -- the last question, by the branch on it
-last : (u : Bool) {x z : Node} {v : Bool} → x ≡ z → Bool·beq (x .up) u ≡ v → cond u (not (z .up)) (z .up) ≡ not v
-last u {x} e h = rw (← e) (by u (x .up) ∙ ap not h)
+last-question : (u : Bool) {x z : Node} {v : Bool} → x ≡ z → Bool·beq (x .up) u ≡ v → cond u (not (z .up)) (z .up) ≡ not v
+last-question u {x} e h = rw (← e) (by u (x .up) ∙ ap not h)
   where
     by : (u y : Bool) → cond u (not y) y ≡ not (Bool·beq y u)
     by true true = refl
@@ -41,7 +41,7 @@ last u {x} e h = rw (← e) (by u (x .up) ∙ ap not h)
 -- the node is so already
 so-already : (u : Bool) (b : Board) (k : ℕ) {x : Node} → wellFormed b ≡ true → ltb k (b .setup .n) ≡ true → x ≡ nodeAt b k → Bool·beq (x .up) u ≡ true
     → refuse (cond u 14 9) b ≡ cond u (nodeUp b k) (nodeDown b k)
-so-already u b k w i e h = sym (guarded-yes _ _ _ _ w ∙ guarded-yes _ _ _ _ i ∙ guarded-no _ _ _ _ (last u e h)) ∙ turns u b k
+so-already u b k w i e h = sym (guarded-yes _ _ _ _ w ∙ guarded-yes _ _ _ _ i ∙ guarded-no _ _ _ _ (last-question u e h)) ∙ switches u b k
 
 is-well-formed-requires : tie.Need-is-well-formed-requires
 is-well-formed-requires c κs = search needs
@@ -52,7 +52,7 @@ refused-requires c κs = search needs
 returns : tie.Need-returns
 returns c =
     let a = c .before .before .before .args in
-    c .refused .ensures ∙ sym (guarded-no _ _ _ _ (said-no (c .before .before .is-well-formed .ensures) (c .before .if1 .taken))) ∙ turns (a .up) (a .b) (a .k .0)
+    c .refused .ensures ∙ sym (guarded-no _ _ _ _ (said-no (c .before .before .is-well-formed .ensures) (c .before .if1 .taken))) ∙ switches (a .up) (a .b) (a .k .0)
 
 refused-requires-2 : tie.Need-refused-requires-2
 refused-requires-2 c κs = search needs
@@ -60,7 +60,7 @@ refused-requires-2 c κs = search needs
 returns-2 : tie.Need-returns-2
 returns-2 c =
     let a = c .before .before .before .before .before .before .args in
-    c .refused2 .ensures ∙ sym (guarded-yes _ _ _ _ (said-yes (c .before .before .before .before .before .is-well-formed .ensures) (c .before .before .before .before .if1 .left)) ∙ guarded-no _ _ _ _ (le-ltb _ _ (c .before .if2 .taken))) ∙ turns (a .up) (a .b) (a .k .0)
+    c .refused2 .ensures ∙ sym (guarded-yes _ _ _ _ (said-yes (c .before .before .before .before .before .is-well-formed .ensures) (c .before .before .before .before .if1 .left)) ∙ guarded-no _ _ _ _ (le-ltb _ _ (c .before .if2 .taken))) ∙ switches (a .up) (a .b) (a .k .0)
 
 node-at-requires : tie.Need-node-at-requires
 node-at-requires c κs = omega (arith, n-at-most _ (said-yes (c .before .before .before .before .is-well-formed .ensures) (c .before .before .before .if1 .left)))
@@ -93,10 +93,10 @@ accepted-requires c κs = search needs
 returns-5 : tie.Need-returns-5
 returns-5 c =
     let a = c .before .before .before .before .before .before .before .before .before .before .before .args in
-    c .accepted .ensures ∙ ap (answer Done) (c .before .with-node .ensures ∙ ap (withNode _ _) (c .before .before .set-up .ensures ∙ ap (withUp _) (c .before .before .before .before .before .node-at .ensures))) ∙ sym (guarded-yes _ _ _ _ (said-yes (c .before .before .before .before .before .before .before .before .before .before .is-well-formed .ensures) (c .before .before .before .before .before .before .before .before .before .if1 .left)) ∙ guarded-yes _ _ _ _ (lt-ltb _ _ (c .before .before .before .before .before .before .if2 .left)) ∙ guarded-yes _ _ _ _ (last (a .up) (c .before .before .before .before .before .node-at .ensures) (c .before .before .before .if3 .left)) ∙ guarded-end _ _) ∙ turns (a .up) (a .b) (a .k .0)
+    c .accepted .ensures ∙ ap (answer Done) (c .before .with-node .ensures ∙ ap (withNode _ _) (c .before .before .set-up .ensures ∙ ap (withUp _) (c .before .before .before .before .before .node-at .ensures))) ∙ sym (guarded-yes _ _ _ _ (said-yes (c .before .before .before .before .before .before .before .before .before .before .is-well-formed .ensures) (c .before .before .before .before .before .before .before .before .before .if1 .left)) ∙ guarded-yes _ _ _ _ (lt-ltb _ _ (c .before .before .before .before .before .before .if2 .left)) ∙ guarded-yes _ _ _ _ (last-question (a .up) (c .before .before .before .before .before .node-at .ensures) (c .before .before .before .if3 .left)) ∙ guarded-end _ _) ∙ switches (a .up) (a .b) (a .k .0)
 
-pub turn-node-spec : {M : Type 1} → statement M
-turn-node-spec =
+pub switch-node-spec : {M : Type 1} → statement M
+switch-node-spec =
     tie.close
     (tie.spec
     is-well-formed-requires
