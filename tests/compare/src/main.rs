@@ -427,7 +427,7 @@ fn library(steps: u64, boards: u64, seed: u64, fault: Fault) {
         seen.ill, seen.by_one, seen.well
     );
     print_node_ups(&counts);
-    if done > 0 && !shows_node_ups(&counts) {
+    if fault == 0 && done > 0 && !shows_node_ups(&counts) {
         println!("the runs do not show node ups in every way that is to be compared");
         exit(1);
     }
