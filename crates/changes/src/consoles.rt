@@ -1,6 +1,5 @@
 // A console begins, rests, and awaits answers.
 ghost use mathlib.Core.Path.{_≡_};
-ghost use Prim.Native.Nat.{_<_};
 ghost use Rattle.parts.specs.Parts.{isAsking, isTelling};
 ghost use Rattle.changes.specs.Changes.{rests, asks, awaits};
 use parts::Console;
@@ -38,9 +37,8 @@ pub fn ask(w: Kind, v: u32, x: Console) -> Console
     }
 }
 
-// Whether the console asks and has no answer yet from node k. The steps have found k to be below n.
+// Whether the console asks and has no answer yet from node k.
 pub fn awaits_reply(x: Console, k: NodeId) -> bool
-    requires { ⌜ k .0 < 8 ⌝ }
     ensures { λ r. ⌜ r ≡ awaits isAsking x (k .0) ⌝ }
 {
     let s = x.state;
@@ -51,9 +49,8 @@ pub fn awaits_reply(x: Console, k: NodeId) -> bool
     !is_member(set, k)
 }
 
-// Whether the console tells and has no answer yet from node k. The steps have found k to be below n.
+// Whether the console tells and has no answer yet from node k.
 pub fn awaits_ack(x: Console, k: NodeId) -> bool
-    requires { ⌜ k .0 < 8 ⌝ }
     ensures { λ r. ⌜ r ≡ awaits isTelling x (k .0) ⌝ }
 {
     let s = x.state;

@@ -8,12 +8,9 @@ use parts::NodeId;
 use parts::Tag;
 use parts::answered::with_member;
 
-// The console with a reply of node k taken in. The steps have found k to be below n, and question 1 both console numbers
-// to be below 8.
+// The console with a reply of node k taken in: where a byte has room for k, and the tags may be compared.
 pub fn hear_reply(x: Console, k: NodeId, t: Tag, v: u32) -> Console
-    requires { ⌜ k .0 < 8 ⌝ }
-    requires { ⌜ (x .best .console < maxConsoles) × (t .console < maxConsoles) ⌝ }
-    ensures { λ r. ⌜ r ≡ hears x (k .0) t v ⌝ }
+    ensures { λ r. ⌜ (k .0 < 8 → x .best .console < maxConsoles → t .console < maxConsoles → r ≡ hears x (k .0) t v) ⌝ }
 {
     let s = x.state;
     let best = x.best;
@@ -36,10 +33,9 @@ pub fn hear_reply(x: Console, k: NodeId, t: Tag, v: u32) -> Console
     }
 }
 
-// The console with an ack of node k taken in. The steps have found k to be below n.
+// The console with an ack of node k taken in, where a byte has room for k.
 pub fn hear_ack(x: Console, k: NodeId) -> Console
-    requires { ⌜ k .0 < 8 ⌝ }
-    ensures { λ r. ⌜ r ≡ acked x (k .0) ⌝ }
+    ensures { λ r. ⌜ (k .0 < 8 → r ≡ acked x (k .0)) ⌝ }
 {
     let s = x.state;
     let best = x.best;

@@ -18,10 +18,9 @@ pub fn set_up(x: Node, up: bool) -> Node
     }
 }
 
-// The node after a put: with the greater tag and its value. Question 1 has found both console numbers to be below 8.
+// The node after a put: with the greater tag and its value, where the tags may be compared.
 pub fn take_put(x: Node, t: Tag, v: u32) -> Node
-    requires { ⌜ (x .tag .console < maxConsoles) × (t .console < maxConsoles) ⌝ }
-    ensures { λ r. ⌜ r ≡ taken x t v ⌝ }
+    ensures { λ r. ⌜ (x .tag .console < maxConsoles → t .console < maxConsoles → r ≡ taken x t v) ⌝ }
 {
     let own = x.tag;
     if t.is_greater(own) {

@@ -1,25 +1,34 @@
 // A console turns from asking to telling.
 ghost use mathlib.Core.Path.{_≡_};
 ghost use mathlib.Core.Bool.{true, cond};
-ghost use Prim.Native.Nat.{_<_};
+ghost use Prim.Native.Nat.{_+_, _<_};
 ghost use Rattle.parts.specs.Limits.{maxTs};
 ghost use Rattle.parts.specs.Parts.{writes};
 ghost use Rattle.changes.specs.Changes.{nextTag, tells};
 use parts::Console;
 use parts::ConsoleId;
+use parts::MAX_TS;
 use parts::Tag;
 
-// The tag to tell: a write chooses the next one, a read keeps its best. Question 10 has found that a write's timestamp can
-// grow.
+// The timestamp after ts, where there is one.
+fn next_ts(ts: u32) -> u32
+    ensures { λ r. ⌜ (ts < maxTs → r ≡ ts + 1) ⌝ }
+{
+    if ts >= MAX_TS {
+        return ts;
+    }
+    ts + 1
+}
+
+// The tag to tell: a write chooses the next one, a read keeps its best.
 fn told_tag(c: ConsoleId, x: Console) -> Tag
-    requires { ⌜ (writes (x .state) ≡ true → x .best .ts < maxTs) ⌝ }
-    ensures { λ r. ⌜ r ≡ cond (writes (x .state)) (nextTag (c .0) x) (x .best) ⌝ }
+    ensures { λ r. ⌜ ((writes (x .state) ≡ true → x .best .ts < maxTs) → r ≡ cond (writes (x .state)) (nextTag (c .0) x) (x .best)) ⌝ }
 {
     let s = x.state;
     let best = x.best;
     if s.is_writing() {
         return Tag {
-            ts: best.ts + 1,
+            ts: next_ts(best.ts),
             console: c.0,
         };
     }
@@ -40,10 +49,9 @@ fn told_value(x: Console) -> u32
     x.value
 }
 
-// The console as it turns. Question 10 has found that a write's timestamp can grow.
+// The console as it turns, where a write's timestamp can grow (question 10).
 pub fn tell(c: ConsoleId, x: Console) -> Console
-    requires { ⌜ (writes (x .state) ≡ true → x .best .ts < maxTs) ⌝ }
-    ensures { λ r. ⌜ r ≡ tells (c .0) x ⌝ }
+    ensures { λ r. ⌜ ((writes (x .state) ≡ true → x .best .ts < maxTs) → r ≡ tells (c .0) x) ⌝ }
 {
     let s = x.state;
     let next = s.to_telling();

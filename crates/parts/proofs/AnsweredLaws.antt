@@ -1,11 +1,12 @@
 -- Laws of the answered set as a byte, each computed over all 256 sets and the eight bits.
-use mathlib.Core.Path.{_≡_, refl}
-use mathlib.Core.Bool.{Bool}
-use Prim.Native.Nat.{ℕ, _*_, _%_, _^_, _≤_, _<_}
+use mathlib.Core.Path.{_≡_, refl, ap}
+use mathlib.Core.Bool.{Bool, false}
+use Prim.Native.Nat.{ℕ, _+_, _*_, _%_, _^_, _≤_, _<_}
 use native.Mathlib.Nat.{pow-le-pow-right}
 use native.Mathlib.Omega.{arith}
 use borrow.Author.Tests.{eqb-true}
 use lib.Dec.{eqb, lit<}
+use lib.Arith.{digits-div}
 use lib.Bits.{bitOr}
 use lib.Count.{ones, onesIn}
 use Rattle.parts.specs.Finite.{every, count}
@@ -41,3 +42,9 @@ or-insert s k h g =
 -- a byte names no node at 8 or above
 pub byte-below : (n s : ℕ) → s < 256 → 8 ≤ n → s < 2 ^ n
 byte-below n s h g = omega (arith, pow-le-pow-right {n = 2} (lit< tt) {i = 8} {j = n} g)
+
+pub byte-no-member : (k s : ℕ) → s < 256 → 8 ≤ k → member s k ≡ false
+unfolding member
+byte-no-member k s h g =
+    let e : 0 * 2 ^ k + s ≡ s = omega arith in
+    ap (λ (x : ℕ). eqb (x % 2) 1) (rw e at (digits-div 0 {m = 2 ^ k} {r = s} (byte-below k s h g)))

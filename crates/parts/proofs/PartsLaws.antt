@@ -1,17 +1,17 @@
 -- Laws of the parts in their lists.
-use mathlib.Core.Path.{_≡_, refl}
+use mathlib.Core.Path.{_≡_, refl, _∙_}
 use mathlib.Core.Bool.{false}
 use mathlib.Core.List.{List, [], _∷_}
 use Prim.Native.Nat.{ℕ, zero, suc, _+_, _<_}
 use native.Mathlib.Numerals.{add-one}
 use native.Mathlib.Nat.{le-of-suc-le-suc}
 use native.Mathlib.Omega.{arith}
-use lib.ListN.{length, getD}
+use lib.ListN.{length, length-set, getD}
 use Rattle.parts.specs.declared.Frame.{Frame}
 use Rattle.parts.specs.declared.Cell.{Cell}
 use Rattle.parts.specs.declared.Node.{Node}
 use Rattle.parts.specs.Tags.{zeroTag}
-use Rattle.parts.specs.Parts.{freshNode, nodeIn, setFrame, setRow}
+use Rattle.parts.specs.Parts.{cellOf, freshNode, nodeIn, place, setFrame, setRow}
 
 -- within a list it does not matter what stands for an element beyond its end
 getD-within : {A : Type 0} (xs : List A) (i : ℕ) (d e : A) → i < length xs → getD xs i d ≡ getD xs i e
@@ -32,3 +32,9 @@ node-read xs k h = getD-within xs k zeroNode freshNode h
 pub row-more : (xs : List Cell) (c k : ℕ) (f : Frame) → setFrame (setRow xs c k f) c k f ≡ setRow xs c (k + 1) f
 unfolding setRow
 row-more xs c k f = rw add-one
+
+-- a row has as many cells as before
+pub row-length : (xs : List Cell) (c k : ℕ) (f : Frame) → length (setRow xs c k f) ≡ length xs
+unfolding setRow setFrame
+row-length xs c zero f = refl
+row-length xs c (suc k) f = length-set (setRow xs c k f) (place c k) (cellOf f) ∙ row-length xs c k f

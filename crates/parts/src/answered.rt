@@ -12,20 +12,24 @@ fn bit(k: u32) -> u8
     1 << k
 }
 
-// Whether node k is in the set. For the board's steps, which have found the node number to be below n.
+// Whether node k is in the set. A byte has no node from 8 on.
 pub fn is_member(s: u8, k: NodeId) -> bool
-    requires { ⌜ k .0 < 8 ⌝ }
     ensures { λ r. ⌜ r ≡ member s (k .0) ⌝ }
 {
     let i = k.0;
+    if i >= 8 {
+        return false;
+    }
     (s >> i) % 2 == 1
 }
 
-// The set with node k in it. For the board's steps, which have found the node number to be below n.
+// The set with node k in it, where a byte has room for that node.
 pub fn with_member(s: u8, k: NodeId) -> u8
-    requires { ⌜ k .0 < 8 ⌝ }
-    ensures { λ r. ⌜ r ≡ insert s (k .0) ⌝ }
+    ensures { λ r. ⌜ (k .0 < 8 → r ≡ insert s (k .0)) ⌝ }
 {
+    if k.0 >= 8 {
+        return s;
+    }
     s | bit(k.0)
 }
 

@@ -1,16 +1,23 @@
-// The nodes of a board: reading one. It is for the board's steps, which have found the node number to be below n.
+// The nodes of a board: reading one.
 ghost use mathlib.Core.Path.{_≡_};
-ghost use Prim.Native.Nat.{_<_};
-ghost use Rattle.parts.specs.Limits.{maxNodes};
 ghost use Rattle.parts.specs.Parts.{nodeIn};
 use crate::NODES;
 use crate::Node;
 use crate::NodeId;
+use crate::Tag;
 
+// Node k; from 5 on a fresh node.
 pub fn node_in(nodes: [Node; NODES], k: NodeId) -> Node
-    requires { ⌜ k .0 < maxNodes ⌝ }
     ensures { λ r. ⌜ r ≡ nodeIn nodes (k .0) ⌝ }
 {
     let i = k.0 as usize;
+    if i >= NODES {
+        let zero = Tag { ts: 0, console: 0 };
+        return Node {
+            up: true,
+            tag: zero,
+            value: 0,
+        };
+    }
     nodes[i]
 }

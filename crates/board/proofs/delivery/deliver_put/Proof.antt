@@ -23,7 +23,7 @@ unfolding onPut toNode
 returns c = c .refused .ensures ∙ sym (guarded-no _ _ _ _ (said-no (ap (λ (y : Node). y .up) (c .before .before .before .node-at .ensures)) (c .before .if1 .taken)))
 
 take-put-requires : tie.Need-take-put-requires
-take-put-requires c κs = (rw (c .before .before .node-at .ensures) (node-below _ (c .before .before .before .pre .0 .formed) _ _ (c .before .before .before .pre .0 .c-m) (c .before .before .before .pre .0 .k-n)), c .before .before .before .pre .1)
+take-put-requires c κs = search needs
 
 with-frame-requires : tie.Need-with-frame-requires
 with-frame-requires c κs = (within (c .before .before .before .before .pre .0) .0, within (c .before .before .before .before .pre .0) .1)
@@ -36,7 +36,9 @@ accepted-requires c κs = search needs
 
 returns-2 : tie.Need-returns-2
 unfolding onPut toNode
-returns-2 c = c .accepted .ensures ∙ ap (answer Handed) (rw (c .before .with-node .ensures, c .before .before .with-frame .ensures, c .before .before .before .take-put .ensures, c .before .before .before .before .before .before .node-at .ensures)) ∙ sym (guarded-yes _ _ _ _ (said-yes (ap (λ (y : Node). y .up) (c .before .before .before .before .before .before .node-at .ensures)) (c .before .before .before .before .if1 .left)) ∙ guarded-end _ _)
+returns-2 c =
+    let p = c .before .before .before .before .before .before .before .pre in
+    c .accepted .ensures ∙ ap (answer Handed) (rw (c .before .with-node .ensures, c .before .before .with-frame .ensures, c .before .before .before .take-put .ensures (rw (c .before .before .before .before .before .before .node-at .ensures) (node-below _ (p .0 .formed) _ _ (p .0 .c-m) (p .0 .k-n))) (p .1), c .before .before .before .before .before .before .node-at .ensures)) ∙ sym (guarded-yes _ _ _ _ (said-yes (ap (λ (y : Node). y .up) (c .before .before .before .before .before .before .node-at .ensures)) (c .before .before .before .before .if1 .left)) ∙ guarded-end _ _)
 
 pub deliver-put-spec : {M : Type 1} → statement M
 deliver-put-spec =

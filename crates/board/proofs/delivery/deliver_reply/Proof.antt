@@ -15,7 +15,7 @@ console-at-requires : tie.Need-console-at-requires
 console-at-requires c κs = within (c .pre .0) .0
 
 awaits-reply-requires : tie.Need-awaits-reply-requires
-awaits-reply-requires c κs = omega (arith, within (c .before .pre .0) .1)
+awaits-reply-requires c κs = search needs
 
 discard-requires : tie.Need-discard-requires
 discard-requires c κs = search needs
@@ -25,14 +25,16 @@ unfolding onReply
 returns c = rw (said-no (c .before .before .awaits-reply .ensures ∙ ap (λ (y : Console). awaits isAsking y (c .before .before .before .before .args .k .0)) (c .before .before .before .console-at .ensures)) (c .before .if1 .taken)) (c .discard .ensures)
 
 hear-reply-requires : tie.Need-hear-reply-requires
-hear-reply-requires c κs = (omega (arith, within (c .before .before .before .pre .0) .1), (rw (c .before .before .console-at .ensures) (best-below _ (c .before .before .before .pre .0 .formed) _ _ (c .before .before .before .pre .0 .c-m) (c .before .before .before .pre .0 .k-n)), c .before .before .before .pre .1))
+hear-reply-requires c κs = search needs
 
 take-reply-requires : tie.Need-take-reply-requires
 take-reply-requires c κs = search needs
 
 returns-2 : tie.Need-returns-2
 unfolding onReply
-returns-2 c = rw (said-yes (c .before .before .before .awaits-reply .ensures ∙ ap (λ (y : Console). awaits isAsking y (c .before .before .before .before .before .args .k .0)) (c .before .before .before .before .console-at .ensures)) (c .before .before .if1 .left)) (c .take-reply .ensures ∙ ap (replied _ _ _) (c .before .hear-reply .ensures ∙ ap (λ (y : Console). hears y (c .before .before .before .before .before .args .k .0) (c .before .before .before .before .before .args .t) (c .before .before .before .before .before .args .v)) (c .before .before .before .before .console-at .ensures)))
+returns-2 c =
+    let p = c .before .before .before .before .before .pre in
+    rw (said-yes (c .before .before .before .awaits-reply .ensures ∙ ap (λ (y : Console). awaits isAsking y (c .before .before .before .before .before .args .k .0)) (c .before .before .before .before .console-at .ensures)) (c .before .before .if1 .left)) (c .take-reply .ensures ∙ ap (replied _ _ _) (c .before .hear-reply .ensures (omega (arith, within (p .0) .1)) (rw (c .before .before .before .before .console-at .ensures) (best-below _ (p .0 .formed) _ _ (p .0 .c-m) (p .0 .k-n))) (p .1) ∙ ap (λ (y : Console). hears y (c .before .before .before .before .before .args .k .0) (c .before .before .before .before .before .args .t) (c .before .before .before .before .before .args .v)) (c .before .before .before .before .console-at .ensures)))
 
 pub deliver-reply-spec : {M : Type 1} → statement M
 deliver-reply-spec =

@@ -15,7 +15,7 @@ with-console-requires c κs = search needs
 
 returns : tie.Need-returns
 unfolding turned
-returns c = rw (c .with-console .ensures, c .before .with-row .ensures, c .before .before .before .tell .ensures)
+returns c = rw (c .with-console .ensures, c .before .with-row .ensures, c .before .before .before .tell .ensures (c .before .before .before .before .pre .1))
 
 pub turned-at-spec : {M : Type 1} → statement M
 turned-at-spec = tie.close (tie.spec tell-requires with-row-requires with-console-requires returns)

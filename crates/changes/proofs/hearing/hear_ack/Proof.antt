@@ -9,7 +9,7 @@ with-member-requires c κs = search needs
 
 returns : tie.Need-returns
 unfolding acked
-returns c = rw (c .with-member .ensures)
+returns c = λ h. rw (c .with-member .ensures h)
 
 pub hear-ack-spec : {M : Type 1} → statement M
 hear-ack-spec = tie.close (tie.spec with-member-requires returns)

@@ -13,11 +13,11 @@ is-greater-requires c κs = search needs
 
 returns : tie.Need-returns
 unfolding hears
-returns c = rw (c .before .before .with-member .ensures, sym (c .before .is-greater .ensures (c .before .before .before .before .pre .1 .1) (c .before .before .before .before .pre .1 .0)) ∙ c .if1 .taken)
+returns c = λ h i j. rw (c .before .before .with-member .ensures h, sym (c .before .is-greater .ensures j i) ∙ c .if1 .taken)
 
 returns-2 : tie.Need-returns-2
 unfolding hears
-returns-2 c = rw (c .before .before .with-member .ensures, sym (c .before .is-greater .ensures (c .before .before .before .before .pre .1 .1) (c .before .before .before .before .pre .1 .0)) ∙ c .if1 .left)
+returns-2 c = λ h i j. rw (c .before .before .with-member .ensures h, sym (c .before .is-greater .ensures j i) ∙ c .if1 .left)
 
 pub hear-reply-spec : {M : Type 1} → statement M
 hear-reply-spec = tie.close (tie.spec with-member-requires is-greater-requires returns returns-2)

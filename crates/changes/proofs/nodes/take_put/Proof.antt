@@ -10,11 +10,11 @@ is-greater-requires c κs = search needs
 
 returns : tie.Need-returns
 unfolding taken
-returns c = rw (sym (c .before .is-greater .ensures (c .before .before .before .pre .1) (c .before .before .before .pre .0)) ∙ c .if1 .taken)
+returns c = λ i j. rw (sym (c .before .is-greater .ensures j i) ∙ c .if1 .taken)
 
 returns-2 : tie.Need-returns-2
 unfolding taken
-returns-2 c = rw (sym (c .before .is-greater .ensures (c .before .before .before .pre .1) (c .before .before .before .pre .0)) ∙ c .if1 .left)
+returns-2 c = λ i j. rw (sym (c .before .is-greater .ensures j i) ∙ c .if1 .left)
 
 pub take-put-spec : {M : Type 1} → statement M
 take-put-spec = tie.close (tie.spec is-greater-requires returns returns-2)

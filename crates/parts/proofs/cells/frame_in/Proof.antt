@@ -1,23 +1,29 @@
--- The place is within the forty cells, and the frame there is the definition's.
+-- Within the forty cells the frame at the place is the definition's; beyond them both are nothing.
+use mathlib.Core.Path.{sym, ap, _∙_}
+use native.Mathlib.Omega.{arith}
 use borrow.Author.Needs.{needs}
-use Rattle.parts.specs.Parts.{place, frameIn}
+use lib.ListN.{List·getD-eq-default}
+use Rattle.parts.specs.declared.Cell.{Cell}
+use Rattle.parts.specs.Parts.{frameIn}
 use Rattle.parts.proofs.cells.frame_in.Statement.{statement}
 use Rattle.parts.proofs.cells.frame_in.Tie as tie
 
 place-of-requires : tie.Need-place-of-requires
 place-of-requires c κs = search needs
 
+returns : tie.Need-returns
+unfolding frameIn
+returns c = sym (ap (λ (x : Cell). x .frame) (List·getD-eq-default (c .before .before .args .t1) _ (omega (arith, c .before .place-of .ensures))))
+
 mul-x : tie.Need-mul-x
-unfolding place
 mul-x c = search needs
 
 array-copy-out-x : tie.Need-array-copy-out-x
-unfolding place
 array-copy-out-x c = search needs
 
-returns : tie.Need-returns
+returns-2 : tie.Need-returns-2
 unfolding frameIn
-returns c = rw (c .before .place-of .ensures)
+returns-2 c = rw (c .before .before .place-of .ensures)
 
 pub frame-in-spec : {M : Type 1} → statement M
-frame-in-spec = tie.close (tie.spec place-of-requires mul-x array-copy-out-x returns)
+frame-in-spec = tie.close (tie.spec place-of-requires returns mul-x array-copy-out-x returns-2)

@@ -1,21 +1,24 @@
--- The code is the definition.
+-- The code is the definition; two numbers of 32 bits leave room in 64.
 use borrow.Author.Needs.{needs}
 use Rattle.parts.specs.Parts.{place}
 use Rattle.parts.proofs.cells.place_of.Statement.{statement}
 use Rattle.parts.proofs.cells.place_of.Tie as tie
 
+cast-result : tie.Need-cast-result
+cast-result c = search needs
+
 mul-result : tie.Need-mul-result
 mul-result c = search needs
 
+cast-result-2 : tie.Need-cast-result-2
+cast-result-2 c = search needs
+
 add-result : tie.Need-add-result
 add-result c = search needs
-
-cast-result : tie.Need-cast-result
-cast-result c = search needs
 
 returns : tie.Need-returns
 unfolding place
 returns c = search needs
 
 pub place-of-spec : {M : Type 1} → statement M
-place-of-spec = tie.close (tie.spec mul-result add-result cast-result returns)
+place-of-spec = tie.close (tie.spec cast-result mul-result cast-result-2 add-result returns)

@@ -1,10 +1,14 @@
--- Invariant: the cells of the nodes below k hold the frame. One turn of the loop is one cell more (row-more).
-use mathlib.Core.Path.{_≡_}
+-- Invariant: the cells of the nodes below k hold the frame. One turn of the loop is one cell more (row-more), or a place beyond
+-- the forty cells, where nothing is stored.
+use mathlib.Core.Logic.{⊎-elim}
+use mathlib.Core.Path.{_≡_, sym, ap, _∙_}
 use Prim.Native.Nat.{_≤_, _-_}
 use native.Mathlib.Omega.{arith}
 use borrow.Author.Needs.{needs}
-use Rattle.parts.proofs.PartsLaws.{row-more}
-use Rattle.parts.specs.Parts.{place, setFrame, setRow}
+use lib.ListN.{length}
+use lib.Seq.{set-out}
+use Rattle.parts.proofs.PartsLaws.{row-length, row-more}
+use Rattle.parts.specs.Parts.{cellOf, place, setFrame, setRow}
 use Rattle.parts.proofs.cells.with_row_in.Statement.{statement}
 use Rattle.parts.proofs.cells.with_row_in.Tie as tie
 
@@ -22,11 +26,9 @@ place-of-requires : tie.Need-place-of-requires Inv-loop μ-loop
 place-of-requires c κs = search needs
 
 mul-sent : tie.Need-mul-sent Inv-loop μ-loop
-unfolding place
 mul-sent c = search needs
 
 array-set-from-sent : tie.Need-array-set-from-sent Inv-loop μ-loop
-unfolding place
 array-set-from-sent c = search needs
 
 add-k : tie.Need-add-k Inv-loop μ-loop
@@ -37,7 +39,13 @@ loop-less c = search needs
 
 loop-again : tie.Need-loop-again Inv-loop μ-loop
 unfolding setFrame
-loop-again c = (search needs, rw (c .before .before .loop .inv .1, c .place-of .ensures) (row-more _ _ _ _))
+loop-again c =
+    let a = c .before .before .before .before .args in
+    let l = c .before .before .before .loop in
+    ⊎-elim
+    (λ w. (omega arith, w .1 ∙ rw (l .inv .1, c .before .place-of .ensures) (row-more _ _ _ _)))
+    (λ w. (omega arith, w .1 ∙ sym (set-out (l .sent) (place (a .c .0) (l .k)) (cellOf (a .f)) (omega (arith, c .before .place-of .ensures, ap length (l .inv .1), row-length (a .cells) (a .c .0) (l .k) (a .f)))) ∙ rw (l .inv .1) (row-more _ _ _ _)))
+    (c .if1 .came)
 
 returns : tie.Need-returns Inv-loop μ-loop
 returns c =
