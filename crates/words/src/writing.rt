@@ -1,9 +1,10 @@
 // Writing a board into words.
 ghost use mathlib.Core.Path.{_≡_};
-ghost use Prim.Native.Nat.{_+_, _≤_};
+ghost use Prim.Native.Nat.{_+_, _≤_, _<_};
 ghost use lib.ListN.{length};
 ghost use Rattle.parts.specs.Finite.{one};
 ghost use Rattle.words.specs.Words.{boardWords, putFour, putNode, stateNumber, kindNumber, putConsole, frameNumber, frameTag, frameValue, putCell, putNodes, putConsoles, putCells, encoded, decoded, Byte, Bytes};
+use crate::BOARD_WORDS;
 use crate::CELL_WORDS;
 use crate::CELLS_AT;
 use crate::CONSOLE_WORDS;
@@ -25,9 +26,9 @@ use parts::State;
 use parts::Tag;
 use parts::nodes::node_in;
 
-// The functions below that write words are called with a place at which the words reach far enough. Those of arrays and of
+// The private functions below that write words are called where the words reach far enough. Those of arrays and of
 // consoles also tell what their arguments' types say (a length, a byte), since reading back rests on it.
-pub fn put_four(w: &mut [u32], p: usize, a: u32, b: u32, c: u32, d: u32)
+fn put_four_at(w: &mut [u32], p: usize, a: u32, b: u32, c: u32, d: u32)
     requires { ⌜ p + 4 ≤ length (now w) ⌝ }
     ensures { λ r. ⌜ now (w .exit) ≡ putFour (now (w .entry)) p a b c d ⌝ }
 {
@@ -47,7 +48,7 @@ fn put_node(w: &mut [u32], p: usize, x: Node)
     requires { ⌜ p + 4 ≤ length (now w) ⌝ }
     ensures { λ r. ⌜ now (w .exit) ≡ putNode (now (w .entry)) p x ⌝ }
 {
-    put_four(w, p, flag(x.up), x.tag.ts, x.tag.console, x.value);
+    put_four_at(w, p, flag(x.up), x.tag.ts, x.tag.console, x.value);
 }
 
 fn put_nodes(w: &mut [u32], nodes: [Node; NODES])
@@ -96,7 +97,7 @@ fn put_console(w: &mut [u32], p: usize, x: Console)
     ensures { λ r. ⌜ (now (w .exit) ≡ putConsole (now (w .entry)) p x) × Byte x ⌝ }
 {
     let s = x.state;
-    put_four(
+    put_four_at(
         w,
         p,
         state_number(s),
@@ -163,7 +164,7 @@ fn put_cell(w: &mut [u32], p: usize, x: Cell)
 {
     let f = x.frame;
     let t = frame_tag(f);
-    put_four(w, p, frame_number(f), t.ts, t.console, frame_value(f));
+    put_four_at(w, p, frame_number(f), t.ts, t.console, frame_value(f));
 }
 
 fn put_cells(w: &mut [u32], cells: [Cell; CELLS])
@@ -178,8 +179,7 @@ fn put_cells(w: &mut [u32], cells: [Cell; CELLS])
     }
 }
 
-// Writes the board into the first 230 words, from which it can be read back. A call has seen that they are there.
-pub fn encode(w: &mut [u32], b: Board)
+fn encode_long(w: &mut [u32], b: Board)
     requires { ⌜ boardWords ≤ length (now w) ⌝ }
     ensures { λ r. ⌜ (now (w .exit) ≡ encoded (now (w .entry)) b) × (decoded (now (w .exit)) ≡ b) ⌝ }
 {
@@ -191,4 +191,27 @@ pub fn encode(w: &mut [u32], b: Board)
     put_consoles(w, consoles);
     let cells = b.cells;
     put_cells(w, cells);
+}
+
+// Writes the board into the first 230 words, from which it can be read back. Shorter words are left as they are.
+pub fn encode(w: &mut [u32], b: Board)
+    ensures { λ r. ⌜ (boardWords ≤ length (now (w .entry)) → (now (w .exit) ≡ encoded (now (w .entry)) b) × (decoded (now (w .exit)) ≡ b)) × (length (now (w .entry)) < boardWords → now (w .exit) ≡ now (w .entry)) ⌝ }
+{
+    if w.len() >= BOARD_WORDS {
+        encode_long(w, b);
+    }
+}
+
+// Writes four words from p on. Words that do not reach so far are left as they are. Nothing is added to p, since p + 4 may
+// be too large for a usize.
+pub fn put_four(w: &mut [u32], p: usize, a: u32, b: u32, c: u32, d: u32)
+    ensures { λ r. ⌜ (p + 4 ≤ length (now (w .entry)) → now (w .exit) ≡ putFour (now (w .entry)) p a b c d) × (length (now (w .entry)) < p + 4 → now (w .exit) ≡ now (w .entry)) ⌝ }
+{
+    let n = w.len();
+    if n < 4 {
+        return;
+    }
+    if p <= n - 4 {
+        put_four_at(w, p, a, b, c, d);
+    }
 }

@@ -12,7 +12,7 @@ returns : tie.Need-returns
 returns c = not-called _ _ _ _ (c .before .short-by .ensures) (c .if1 .taken)
 
 decode-requires : tie.Need-decode-requires
-decode-requires c κs = long-board _ _ (sym (c .before .before .short-by .ensures) ∙ c .before .if1 .left)
+decode-requires c κs = search needs
 
 deliver-requires : tie.Need-deliver-requires
 deliver-requires c κs = search needs
@@ -31,7 +31,7 @@ same-length-2 c = search needs
 
 returns-2 : tie.Need-returns-2
 returns-2 c =
-    called _ _ _ _ (c .before .before .before .before .before .before .before .before .before .before .before .before .short-by .ensures) (c .before .before .before .before .before .before .before .before .before .before .before .if1 .left) _ (c .before .before .before .before .before .before .before .before .before .decode .ensures) _ (c .before .before .before .before .before .before .before .before .deliver .ensures)
+    called _ _ _ _ (c .before .before .before .before .before .before .before .before .before .before .before .before .short-by .ensures) (c .before .before .before .before .before .before .before .before .before .before .before .if1 .left) _ (c .before .before .before .before .before .before .before .before .before .decode .ensures (long-board _ _ (sym (c .before .before .before .before .before .before .before .before .before .before .before .before .short-by .ensures) ∙ c .before .before .before .before .before .before .before .before .before .before .before .if1 .left))) _ (c .before .before .before .before .before .before .before .before .deliver .ensures)
     _ _ (c .before .before .keep .ensures) (c .before .before .before .before .before .before .put-answer .ensures)
 
 pub board-deliver-spec : {M : Type 1} → statement M

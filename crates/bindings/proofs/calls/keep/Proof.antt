@@ -12,7 +12,7 @@ same-length : tie.Need-same-length
 same-length c = search needs
 
 returns : tie.Need-returns
-returns c = c .before .before .encode .ensures .0 ∙ kept-done _ _ (c .before .before .before .before .before .if1 .taken)
+returns c = c .before .before .encode .ensures .0 (search needs) .0 ∙ kept-done _ _ (c .before .before .before .before .before .if1 .taken)
 
 returns-2 : tie.Need-returns-2
 returns-2 c = kept-refused _ _ (c .if1 .left)

@@ -1,4 +1,5 @@
 -- The five words are the definition's.
+use native.Mathlib.Omega.{arith}
 use borrow.Author.Needs.{needs}
 use Rattle.bindings.specs.Calls.{said}
 use Rattle.bindings.proofs.calls.put_answer.Statement.{statement}
@@ -30,7 +31,7 @@ same-length c = search needs
 
 returns : tie.Need-returns
 unfolding said
-returns c = rw (c .before .before .before .put-four .ensures, c .value .ensures, c .before .before .before .before .number .ensures, c .before .before .before .before .before .before .tag .ensures)
+returns c = rw (c .before .before .before .put-four .ensures .0 (omega arith), c .value .ensures, c .before .before .before .before .number .ensures, c .before .before .before .before .before .before .tag .ensures)
 
 pub put-answer-spec : {M : Type 1} → statement M
 put-answer-spec =

@@ -12,7 +12,7 @@ returns : tie.Need-returns
 returns c = not-ran _ _ _ _ (c .before .list-short-by .ensures) (c .if1 .taken)
 
 decode-requires : tie.Need-decode-requires
-decode-requires c κs = list-long-board _ _ _ (sym (c .before .before .before .list-short-by .ensures) ∙ c .before .before .if1 .left)
+decode-requires c κs = search needs
 
 run-steps-requires : tie.Need-run-steps-requires
 run-steps-requires c κs = list-long-answers _ _ _ (sym (c .before .before .before .before .list-short-by .ensures) ∙ c .before .before .before .if1 .left)
@@ -27,7 +27,7 @@ same-length-2 : tie.Need-same-length-2
 same-length-2 c = search needs
 
 returns-2 : tie.Need-returns-2
-returns-2 c = ran _ _ _ _ (c .before .before .before .before .before .before .before .before .before .before .before .list-short-by .ensures) (c .before .before .before .before .before .before .before .before .before .before .if1 .left) _ (c .before .before .before .before .before .before .before .decode .ensures) _ (c .before .before .before .before .before .before .run-steps .ensures .0) _ _ (c .before .before .keep-after .ensures) (c .before .before .before .before .before .before .run-steps .ensures .1)
+returns-2 c = ran _ _ _ _ (c .before .before .before .before .before .before .before .before .before .before .before .list-short-by .ensures) (c .before .before .before .before .before .before .before .before .before .before .if1 .left) _ (c .before .before .before .before .before .before .before .decode .ensures (list-long-board _ _ _ (sym (c .before .before .before .before .before .before .before .before .before .before .before .list-short-by .ensures) ∙ c .before .before .before .before .before .before .before .before .before .before .if1 .left))) _ (c .before .before .before .before .before .before .run-steps .ensures .0) _ _ (c .before .before .keep-after .ensures) (c .before .before .before .before .before .before .run-steps .ensures .1)
 
 pub board-run-spec : {M : Type 1} → statement M
 board-run-spec =

@@ -1,35 +1,20 @@
--- Each part is the definition's.
+-- Of shorter words nothing is ensured.
+use native.Mathlib.Omega.{arith}
 use borrow.Author.Needs.{needs}
-use Rattle.words.specs.Words.{decoded}
 use Rattle.words.proofs.reading.decode.Statement.{statement}
 use Rattle.words.proofs.reading.decode.Tie as tie
 
-shared-slice-read-t7 : tie.Need-shared-slice-read-t7
-shared-slice-read-t7 c = search needs
-
-shared-slice-read-t9 : tie.Need-shared-slice-read-t9
-shared-slice-read-t9 c = search needs
-
-nodes-from-requires : tie.Need-nodes-from-requires
-nodes-from-requires c κs = search needs
-
-consoles-from-requires : tie.Need-consoles-from-requires
-consoles-from-requires c κs = search needs
-
-cells-from-requires : tie.Need-cells-from-requires
-cells-from-requires c κs = search needs
+fresh-requires : tie.Need-fresh-requires
+fresh-requires c κs = search needs
 
 returns : tie.Need-returns
-unfolding decoded
-returns c = rw (c .before .before .nodes-from .ensures, c .before .consoles-from .ensures, c .cells-from .ensures)
+returns c = λ h. absurd (omega arith)
+
+decode-long-requires : tie.Need-decode-long-requires
+decode-long-requires c κs = search needs
+
+returns-2 : tie.Need-returns-2
+returns-2 c = search needs
 
 pub decode-spec : {M : Type 1} → statement M
-decode-spec =
-    tie.close
-    (tie.spec
-    shared-slice-read-t7
-    shared-slice-read-t9
-    nodes-from-requires
-    consoles-from-requires
-    cells-from-requires
-    returns)
+decode-spec = tie.close (tie.spec fresh-requires returns decode-long-requires returns-2)

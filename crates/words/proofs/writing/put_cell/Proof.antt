@@ -13,15 +13,15 @@ frame-number-requires c κs = search needs
 frame-value-requires : tie.Need-frame-value-requires
 frame-value-requires c κs = search needs
 
-put-four-requires : tie.Need-put-four-requires
-put-four-requires c κs = search needs
+put-four-at-requires : tie.Need-put-four-at-requires
+put-four-at-requires c κs = search needs
 
 same-length : tie.Need-same-length
 same-length c = search needs
 
 returns : tie.Need-returns
 unfolding putCell
-returns c = rw (c .before .before .put-four .ensures, c .before .before .before .frame-value .ensures, c .before .before .before .before .frame-number .ensures, c .before .before .before .before .before .before .frame-tag .ensures)
+returns c = rw (c .before .before .put-four-at .ensures, c .before .before .before .frame-value .ensures, c .before .before .before .before .frame-number .ensures, c .before .before .before .before .before .before .frame-tag .ensures)
 
 pub put-cell-spec : {M : Type 1} → statement M
 put-cell-spec =
@@ -30,6 +30,6 @@ put-cell-spec =
     frame-tag-requires
     frame-number-requires
     frame-value-requires
-    put-four-requires
+    put-four-at-requires
     same-length
     returns)

@@ -10,11 +10,11 @@ use Rattle.words.proofs.writing.put_console.Tie as tie
 state-number-requires : tie.Need-state-number-requires
 state-number-requires c κs = search needs
 
-cast-put-four : tie.Need-cast-put-four
-cast-put-four c = search needs
+cast-put-four-at : tie.Need-cast-put-four-at
+cast-put-four-at c = search needs
 
-put-four-requires : tie.Need-put-four-requires
-put-four-requires c κs = search needs
+put-four-at-requires : tie.Need-put-four-at-requires
+put-four-at-requires c κs = search needs
 
 add-w : tie.Need-add-w
 add-w c = search needs
@@ -32,22 +32,22 @@ mul-w-2 : tie.Need-mul-w-2
 mul-w-2 c = search needs
 
 slice-write-w-2 : tie.Need-slice-write-w-2
-slice-write-w-2 c = simp length-set (omega (arith, simp length-set at (ap length (c .before .before .put-four .ensures))))
+slice-write-w-2 c = simp length-set (omega (arith, simp length-set at (ap length (c .before .before .put-four-at .ensures))))
 
 same-length : tie.Need-same-length
 same-length c = search needs
 
 returns : tie.Need-returns
 unfolding putConsole
-returns c = (rw (c .before .before .put-four .ensures, c .before .before .before .before .state-number .ensures), search needs)
+returns c = (rw (c .before .before .put-four-at .ensures, c .before .before .before .before .state-number .ensures), search needs)
 
 pub put-console-spec : {M : Type 1} → statement M
 put-console-spec =
     tie.close
     (tie.spec
     state-number-requires
-    cast-put-four
-    put-four-requires
+    cast-put-four-at
+    put-four-at-requires
     add-w
     mul-w
     slice-write-w

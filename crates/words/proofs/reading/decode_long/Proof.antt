@@ -1,0 +1,35 @@
+-- Each part is the definition's.
+use borrow.Author.Needs.{needs}
+use Rattle.words.specs.Words.{decoded}
+use Rattle.words.proofs.reading.decode_long.Statement.{statement}
+use Rattle.words.proofs.reading.decode_long.Tie as tie
+
+shared-slice-read-t7 : tie.Need-shared-slice-read-t7
+shared-slice-read-t7 c = search needs
+
+shared-slice-read-t9 : tie.Need-shared-slice-read-t9
+shared-slice-read-t9 c = search needs
+
+nodes-from-requires : tie.Need-nodes-from-requires
+nodes-from-requires c κs = search needs
+
+consoles-from-requires : tie.Need-consoles-from-requires
+consoles-from-requires c κs = search needs
+
+cells-from-requires : tie.Need-cells-from-requires
+cells-from-requires c κs = search needs
+
+returns : tie.Need-returns
+unfolding decoded
+returns c = rw (c .before .before .nodes-from .ensures, c .before .consoles-from .ensures, c .cells-from .ensures)
+
+pub decode-long-spec : {M : Type 1} → statement M
+decode-long-spec =
+    tie.close
+    (tie.spec
+    shared-slice-read-t7
+    shared-slice-read-t9
+    nodes-from-requires
+    consoles-from-requires
+    cells-from-requires
+    returns)
