@@ -1,12 +1,11 @@
 -- Laws of one line of a chunk: where the run stands after the bytes up to its LF, and after that.
-use Prim.Native.Nat.{ℕ, suc, _+_, _-_, _≤_, _<_, min}
+use Prim.Native.Nat.{ℕ, suc, _+_, _-_, _≤_, _<_}
 use mathlib.Core.Bool.{Bool, true, false}
 use mathlib.Core.List.{List, [], _∷_, _++_, append-assoc, append-nil}
 use mathlib.Core.Path.{_≡_, refl, sym, ap, _∙_}
-use native.Mathlib.Nat.{min-eq-left}
 use native.Mathlib.Omega.{arith}
-use borrow.Author.Tests.{eqb-true, leb-true, leb-false}
-use lib.Dec.{eqb, leb}
+use borrow.Author.Tests.{eqb-true}
+use lib.Dec.{eqb}
 use lib.ListN.{length, take, drop, getD, length-take, length-drop, length-append}
 use lib.Seq.{take-all, take-length, take-suc, take-add, sets}
 use Rattle.board.specs.declared.Board.{Board}
@@ -161,18 +160,6 @@ taken-as s t line out c d r line' out' e f u =
       wrote = omega (arith, u .wrote, ap length text);
       room = u .room;
     }
-
--- ---- no more than there are
-
-pub take-least : (l : List ℕ) (n k : ℕ) → k ≡ min n (length l) → take k l ≡ take n l
-take-least l n k e = go (leb n (length l)) refl
-  where
-    go : (t : Bool) → leb n (length l) ≡ t → take k l ≡ take n l
-    go true f = ap (λ (i : ℕ). take i l) (e ∙ min-eq-left (leb-true n (length l) f))
-    go false f =
-        let all : length l ≤ k = omega (arith, e, leb-false n (length l) f) in
-        let more : length l ≤ n = omega (arith, leb-false n (length l) f) in
-        take-all k l all ∙ sym (take-all n l more)
 
 -- ---- the beginning and the end
 

@@ -53,3 +53,15 @@ module _ (l s : List ℕ) (h : ℕ) (le : h ≤ length l) where
   -- the first bytes of what is held and of s, as far as there is room
   pub held-is : (n : ℕ) → n ≡ min (length s) (length l - h) → take h l ++ take n s ≡ take (length l) (take h l ++ s)
   held-is n e = held-cases n e (leb (length s) (length l - h)) refl
+
+-- ---- no more than there are
+
+pub take-least : (l : List ℕ) (n k : ℕ) → k ≡ min n (length l) → take k l ≡ take n l
+take-least l n k e = go (leb n (length l)) refl
+  where
+    go : (t : Bool) → leb n (length l) ≡ t → take k l ≡ take n l
+    go true f = ap (λ (i : ℕ). take i l) (e ∙ min-eq-left (leb-true n (length l) f))
+    go false f =
+        let all : length l ≤ k = omega (arith, e, leb-false n (length l) f) in
+        let more : length l ≤ n = omega (arith, leb-false n (length l) f) in
+        take-all k l all ∙ sym (take-all n l more)

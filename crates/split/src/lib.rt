@@ -15,12 +15,12 @@ pub fn least(a: usize, b: usize) -> usize
     if a < b { a } else { b }
 }
 
-// Puts the bytes behind those that are held, as far as there is room, and answers how many are held then. The caller has seen
-// that so many are held.
+// Puts the bytes behind those that are held, as far as there is room, and answers how many are held then. No more are held than
+// the line has bytes, whatever number is given.
 pub fn hold(line: &mut [u8], held: usize, bytes: &[u8]) -> usize
-    requires { ⌜ held ≤ length (now line) ⌝ }
     ensures { λ r. ⌜ (r ≤ length (now (line .exit))) × (take r (now (line .exit)) ≡ take (length (now (line .entry))) (take held (now (line .entry)) ++ now (bytes .entry))) ⌝ }
 {
+    let held = least(held, line.len());
     let n = least(bytes.len(), line.len() - held);
     let mut i = 0;
     while i < n {
@@ -30,12 +30,12 @@ pub fn hold(line: &mut [u8], held: usize, bytes: &[u8]) -> usize
     held + n
 }
 
-// How many of the held bytes are the line, once its LF is there: a CR before that is part of the line's end. The caller has
-// seen that so many are held.
+// How many of the held bytes are the line, once its LF is there: a CR before that is part of the line's end. No more are held
+// than the line has bytes, whatever number is given.
 pub fn chopped(line: &[u8], held: usize) -> usize
-    requires { ⌜ held ≤ length (now line) ⌝ }
     ensures { λ r. ⌜ (r ≤ held) × (take r (now (line .entry)) ≡ chop (take held (now (line .entry)))) ⌝ }
 {
+    let held = least(held, line.len());
     if held == 0 {
         return 0;
     }

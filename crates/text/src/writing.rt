@@ -1,10 +1,11 @@
 // Writing at a running place of a lent output: each function answers the place after what it wrote, and leaves all else as it
-// was. A call has seen that there is room.
+// was. A call has seen that there is room, but for put_line, which others call: it sees to that itself.
 ghost use mathlib.Core.Path.{_≡_};
 ghost use Prim.Native.Nat.{_+_, _<_, _≤_};
 ghost use lib.ListN.{length, set};
 ghost use lib.Seq.{sets};
 ghost use Rattle.text.specs.Text.{digitOf, decimal, fieldText, lineText, wordBytes, lineBytes};
+use crate::LINE_BYTES;
 use crate::Row;
 
 fn wide(x: u32) -> u64
@@ -57,7 +58,7 @@ fn put_word(out: &mut [u8], at: usize, n: u32, end: u8) -> usize
 }
 
 // The row as a line, with its LF, where there is room for LINE_BYTES.
-pub fn put_line(out: &mut [u8], at: usize, row: Row) -> usize
+fn put_row(out: &mut [u8], at: usize, row: Row) -> usize
     requires { ⌜ at + lineBytes ≤ length (now out) ⌝ }
     ensures { λ r. ⌜ (r ≤ at + lineBytes) × (r ≡ at + length (lineText row)) × (now (out .exit) ≡ sets (now (out .entry)) at (lineText row)) ⌝ }
 {
@@ -67,4 +68,18 @@ pub fn put_line(out: &mut [u8], at: usize, row: Row) -> usize
     let s = put_word(out, r, row.ts, b',');
     let t = put_word(out, s, row.console, b',');
     put_word(out, t, row.value, b'\n')
+}
+
+// The same for any caller: where there is no room for LINE_BYTES nothing is written, and what is answered is left open.
+pub fn put_line(out: &mut [u8], at: usize, row: Row) -> usize
+    ensures { λ r. ⌜ (at + lineBytes ≤ length (now (out .entry)) → (r ≤ at + lineBytes) × (r ≡ at + length (lineText row)) × (now (out .exit) ≡ sets (now (out .entry)) at (lineText row))) ⌝ }
+    ensures { λ r. ⌜ (length (now (out .entry)) < at + lineBytes → now (out .exit) ≡ now (out .entry)) ⌝ }
+{
+    if at > out.len() {
+        return at;
+    }
+    if out.len() - at < LINE_BYTES {
+        return at;
+    }
+    put_row(out, at, row)
 }

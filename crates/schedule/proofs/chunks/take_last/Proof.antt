@@ -5,9 +5,10 @@ use mathlib.Core.Path.{_≡_, sym, ap, _∙_}
 use native.Mathlib.Omega.{arith}
 use lib.ListN.{length, take, length-take}
 use lib.Seq.{sets, length-take-le}
+use Rattle.split.proofs.SplitLaws.{take-least}
 use Rattle.schedule.specs.Schedule.{effectOf}
 use Rattle.schedule.specs.Chunks.{Session, sessionOf}
-use Rattle.schedule.proofs.ChunksLaws.{take-least, no-last, a-last}
+use Rattle.schedule.proofs.ChunksLaws.{no-last, a-last}
 use borrow.Author.Needs.{needs}
 use Rattle.schedule.proofs.chunks.take_last.Statement.{statement}
 use Rattle.schedule.proofs.chunks.take_last.Tie as tie

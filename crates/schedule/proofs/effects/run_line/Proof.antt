@@ -1,4 +1,5 @@
 -- The answer, its row and the board after it, each by the definition.
+use native.Mathlib.Omega.{arith}
 use Rattle.schedule.specs.Schedule.{effectOf}
 use borrow.Author.Needs.{needs}
 use Rattle.schedule.proofs.effects.run_line.Statement.{statement}
@@ -24,11 +25,12 @@ unfolding effectOf
 returns c =
     let put = c .before .before .before in
     let row = put .before in
-    let answered = row .before .before in (
-      put .put-line .ensures .0,
+    let answered = row .before .before in
+    let written = put .put-line .ensures .0 (omega arith) in (
+      written .0,
       rw (c .board-after .ensures, answered .answer-to .ensures),
-      rw (row .row-of .ensures, answered .answer-to .ensures) at (put .put-line .ensures .1),
-      rw (row .row-of .ensures, answered .answer-to .ensures) at (put .put-line .ensures .2),
+      rw (row .row-of .ensures, answered .answer-to .ensures) at (written .1),
+      rw (row .row-of .ensures, answered .answer-to .ensures) at (written .2),
     )
 
 pub run-line-spec : {M : Type 1} → statement M

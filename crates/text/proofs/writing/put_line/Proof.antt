@@ -1,59 +1,28 @@
--- Six fields one after the other make the line (line-writes). There is room for each: put_word tells that its field has at
--- most 11 bytes, and field-short that the first has at most 21.
-use mathlib.Core.Path.{_∙_}
+-- Without room nothing is written, and with room the line is put_row's.
+use mathlib.Core.Path.{refl}
 use native.Mathlib.Omega.{arith}
 use borrow.Author.Needs.{needs}
-use Rattle.lines.specs.Lines.{commaByte}
-use Rattle.text.proofs.TextLaws.{field-short, line-length, line-writes}
 use Rattle.text.proofs.writing.put_line.Statement.{statement}
 use Rattle.text.proofs.writing.put_line.Tie as tie
 
-put-field-requires : tie.Need-put-field-requires
-put-field-requires c κs = omega (arith, field-short (c .before .before .args .row .number) commaByte)
+returns : tie.Need-returns
+returns c = (λ room. absurd (omega arith), λ less. refl)
 
-put-word-requires : tie.Need-put-word-requires
-put-word-requires c κs = omega (arith, field-short (c .before .before .before .before .before .before .args .row .number) commaByte)
+sub-if2 : tie.Need-sub-if2
+sub-if2 c = search needs
 
-put-word-requires-2 : tie.Need-put-word-requires-2
-put-word-requires-2 c κs = omega (arith, field-short (c .before .before .before .before .before .before .before .before .before .before .args .row .number) commaByte)
+returns-2 : tie.Need-returns-2
+returns-2 c = (λ room. absurd (omega arith), λ less. refl)
 
-put-word-requires-3 : tie.Need-put-word-requires-3
-put-word-requires-3 c κs = omega (arith, field-short (c .before .before .before .before .before .before .before .before .before .before .before .before .before .before .args .row .number) commaByte)
-
-put-word-requires-4 : tie.Need-put-word-requires-4
-put-word-requires-4 c κs = omega (arith, field-short (c .before .before .before .before .before .before .before .before .before .before .before .before .before .before .before .before .before .before .args .row .number) commaByte)
-
-put-word-requires-5 : tie.Need-put-word-requires-5
-put-word-requires-5 c κs = omega (arith, field-short (c .before .before .before .before .before .before .before .before .before .before .before .before .before .before .before .before .before .before .before .before .before .before .args .row .number) commaByte)
+put-row-requires : tie.Need-put-row-requires
+put-row-requires c κs = search needs
 
 same-length : tie.Need-same-length
 same-length c = search needs
 
-returns : tie.Need-returns
-returns c =
-    let value = c .before .before in
-    let console = value .before .before .before .before in
-    let ts = console .before .before .before .before in
-    let outcome = ts .before .before .before .before in
-    let refusal = outcome .before .before .before .before in
-    let number = refusal .before .before .before .before in
-    let row = number .before .before .before .args .row in (
-      omega (arith, field-short (row .number) commaByte),
-      omega (arith, line-length row),
-      value .put-word5 .ensures .1
-          ∙ rw (console .put-word4 .ensures .1, ts .put-word3 .ensures .1, outcome .put-word2 .ensures .1, refusal .put-word .ensures .1, number .put-field .ensures .1)
-          (line-writes row _ _ _ _ _ _ _ (number .put-field .ensures .0) (refusal .put-word .ensures .0) (outcome .put-word2 .ensures .0) (ts .put-word3 .ensures .0) (console .put-word4 .ensures .0)),
-    )
+returns-3 : tie.Need-returns-3
+returns-3 c = (λ room. c .before .before .put-row .ensures, λ less. absurd (omega arith))
 
 pub put-line-spec : {M : Type 1} → statement M
 put-line-spec =
-    tie.close
-    (tie.spec
-    put-field-requires
-    put-word-requires
-    put-word-requires-2
-    put-word-requires-3
-    put-word-requires-4
-    put-word-requires-5
-    same-length
-    returns)
+    tie.close (tie.spec returns sub-if2 returns-2 put-row-requires same-length returns-3)
