@@ -155,7 +155,7 @@ fn cells_from(w: &[u32]) -> [Cell; CELLS]
     cells
 }
 
-fn decode_long(w: &[u32]) -> Board
+fn board_from(w: &[u32]) -> Board
     requires { ⌜ boardWords ≤ length (now w) ⌝ }
     ensures { λ r. ⌜ r ≡ decoded (now (w .entry)) ⌝ }
 {
@@ -171,12 +171,13 @@ fn decode_long(w: &[u32]) -> Board
     }
 }
 
-// The board in the first 230 words. The contract leaves open which board shorter words give.
+// The board in the first 230 words. Fewer words are read as if all were 0; the contract leaves that open.
 pub fn decode(w: &[u32]) -> Board
     ensures { λ r. ⌜ (boardWords ≤ length (now (w .entry)) → r ≡ decoded (now (w .entry))) ⌝ }
 {
     if w.len() < BOARD_WORDS {
-        return Board::fresh(1, 1).board;
+        let none = [0; BOARD_WORDS];
+        return board_from(&none);
     }
-    decode_long(w)
+    board_from(w)
 }

@@ -1,20 +1,30 @@
--- Of shorter words nothing is ensured.
+-- Long words are board_from's; of shorter ones nothing is ensured.
 use native.Mathlib.Omega.{arith}
 use borrow.Author.Needs.{needs}
 use Rattle.words.proofs.reading.decode.Statement.{statement}
 use Rattle.words.proofs.reading.decode.Tie as tie
 
-fresh-requires : tie.Need-fresh-requires
-fresh-requires c κs = search needs
+slice-aggregate-board-from : tie.Need-slice-aggregate-board-from
+slice-aggregate-board-from c = search needs
+
+board-from-requires : tie.Need-board-from-requires
+board-from-requires c κs = search needs
 
 returns : tie.Need-returns
 returns c = λ h. absurd (omega arith)
 
-decode-long-requires : tie.Need-decode-long-requires
-decode-long-requires c κs = search needs
+board-from-requires-2 : tie.Need-board-from-requires-2
+board-from-requires-2 c κs = search needs
 
 returns-2 : tie.Need-returns-2
 returns-2 c = search needs
 
 pub decode-spec : {M : Type 1} → statement M
-decode-spec = tie.close (tie.spec fresh-requires returns decode-long-requires returns-2)
+decode-spec =
+    tie.close
+    (tie.spec
+    slice-aggregate-board-from
+    board-from-requires
+    returns
+    board-from-requires-2
+    returns-2)

@@ -1,8 +1,8 @@
 -- Each part is the definition's.
 use borrow.Author.Needs.{needs}
 use Rattle.words.specs.Words.{decoded}
-use Rattle.words.proofs.reading.decode_long.Statement.{statement}
-use Rattle.words.proofs.reading.decode_long.Tie as tie
+use Rattle.words.proofs.reading.board_from.Statement.{statement}
+use Rattle.words.proofs.reading.board_from.Tie as tie
 
 shared-slice-read-t7 : tie.Need-shared-slice-read-t7
 shared-slice-read-t7 c = search needs
@@ -23,8 +23,8 @@ returns : tie.Need-returns
 unfolding decoded
 returns c = rw (c .before .before .nodes-from .ensures, c .before .consoles-from .ensures, c .cells-from .ensures)
 
-pub decode-long-spec : {M : Type 1} → statement M
-decode-long-spec =
+pub board-from-spec : {M : Type 1} → statement M
+board-from-spec =
     tie.close
     (tie.spec
     shared-slice-read-t7
