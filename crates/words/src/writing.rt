@@ -179,7 +179,7 @@ fn put_cells(w: &mut [u32], cells: [Cell; CELLS])
     }
 }
 
-fn encode_long(w: &mut [u32], b: Board)
+fn put_board(w: &mut [u32], b: Board)
     requires { ⌜ boardWords ≤ length (now w) ⌝ }
     ensures { λ r. ⌜ (now (w .exit) ≡ encoded (now (w .entry)) b) × (decoded (now (w .exit)) ≡ b) ⌝ }
 {
@@ -198,7 +198,7 @@ pub fn encode(w: &mut [u32], b: Board)
     ensures { λ r. ⌜ (boardWords ≤ length (now (w .entry)) → (now (w .exit) ≡ encoded (now (w .entry)) b) × (decoded (now (w .exit)) ≡ b)) × (length (now (w .entry)) < boardWords → now (w .exit) ≡ now (w .entry)) ⌝ }
 {
     if w.len() >= BOARD_WORDS {
-        encode_long(w, b);
+        put_board(w, b);
     }
 }
 

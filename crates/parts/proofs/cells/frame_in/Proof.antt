@@ -1,5 +1,5 @@
 -- Within the forty cells the frame at the place is the definition's; beyond them both are nothing.
-use mathlib.Core.Path.{sym, ap, _∙_}
+use mathlib.Core.Path.{sym, ap}
 use native.Mathlib.Omega.{arith}
 use borrow.Author.Needs.{needs}
 use lib.ListN.{List·getD-eq-default}

@@ -5,8 +5,8 @@ use borrow.Author.Needs.{needs}
 use lib.ListN.{length, length-set}
 use Rattle.words.proofs.RoundTrip.{nodes-long, consoles-long, cells-long, written}
 use Rattle.words.specs.Words.{encoded}
-use Rattle.words.proofs.writing.encode_long.Statement.{statement}
-use Rattle.words.proofs.writing.encode_long.Tie as tie
+use Rattle.words.proofs.writing.put_board.Statement.{statement}
+use Rattle.words.proofs.writing.put_board.Tie as tie
 
 slice-write-w : tie.Need-slice-write-w
 slice-write-w c = search needs
@@ -33,8 +33,8 @@ returns c =
     (record { nodes-5 = c .before .before .before .before .before .before .before .before .before .before .before .before .put-nodes .ensures .1; consoles-8 = c .before .before .before .before .before .before .before .put-consoles .ensures .1; cells-40 = c .before .before .put-cells .ensures .1; bytes = c .before .before .before .before .before .before .before .put-consoles .ensures .2 })
     (rw (c .before .before .put-cells .ensures .0, c .before .before .before .before .before .before .before .put-consoles .ensures .0, c .before .before .before .before .before .before .before .before .before .before .before .before .put-nodes .ensures .0))
 
-pub encode-long-spec : {M : Type 1} → statement M
-encode-long-spec =
+pub put-board-spec : {M : Type 1} → statement M
+put-board-spec =
     tie.close
     (tie.spec
     slice-write-w
