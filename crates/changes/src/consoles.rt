@@ -20,6 +20,7 @@ pub fn rest(s: State, x: Console) -> Console
         answered: 0,
         best: zero,
         value: 0,
+        alike: false,
     }
 }
 
@@ -34,6 +35,7 @@ pub fn ask(w: Kind, v: u32, x: Console) -> Console
         answered: 0,
         best: zero,
         value: 0,
+        alike: false,
     }
 }
 

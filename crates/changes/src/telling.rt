@@ -63,5 +63,6 @@ pub fn tell(c: ConsoleId, x: Console) -> Console
         answered: 0,
         best: t,
         value: v,
+        alike: false,
     }
 }

@@ -1,8 +1,10 @@
--- What an outcome says in document 01's numbers: its number, its tag and its value.
+-- What an outcome says in document 01's numbers: its number, its tag and its value. And the number of a comparison.
 use Prim.Native.Nat.{ℕ}
 use Rattle.parts.specs.declared.Tag.{Tag}
 use Rattle.parts.specs.declared.Outcome.{Outcome}
 use Rattle.parts.specs.declared.Outcome.the-variants.{Refused, Done, Handed, Heard, Turned, Finished, Discarded}
+use Rattle.parts.specs.declared.Compared.{Compared}
+use Rattle.parts.specs.declared.Compared.the-variants.{None, Lower, Same, Higher}
 use Rattle.parts.specs.Tags.{zeroTag}
 
 -- 'Outcomes are written 0 refused, 1 done, 2 handed, 3 heard, 4 turned, 5 finished, 6 discarded'
@@ -33,3 +35,10 @@ outcomeValue Heard = 0
 outcomeValue Turned = 0
 outcomeValue (Finished t v) = v
 outcomeValue Discarded = 0
+
+-- a comparison as a number, in the order of the paper's words: none, and 'lower, same or higher'
+abbrev pub comparedNumber : Compared → ℕ
+comparedNumber None = 0
+comparedNumber Lower = 1
+comparedNumber Same = 2
+comparedNumber Higher = 3

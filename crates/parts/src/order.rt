@@ -1,8 +1,9 @@
-// The order of tags.
+// The order of tags, and how one compares with another.
 ghost use mathlib.Core.Path.{_≡_};
 ghost use Prim.Native.Nat.{_<_};
 ghost use Rattle.parts.specs.Limits.{maxConsoles};
-ghost use Rattle.parts.specs.Tags.{greater};
+ghost use Rattle.parts.specs.Tags.{greater, compared, isHigher, isSame};
+use crate::Compared;
 use crate::Tag;
 
 impl Tag {
@@ -18,5 +19,42 @@ impl Tag {
             return false;
         }
         self.console > b.console
+    }
+
+    // How this tag compares with the tag best, where is_greater says how they stand.
+    pub fn compared_with(self, best: Tag) -> Compared
+        ensures { λ r. ⌜ (self .console < maxConsoles → best .console < maxConsoles → r ≡ compared self best) ⌝ }
+    {
+        if self.is_greater(best) {
+            return Compared::Higher;
+        }
+        if best.is_greater(self) {
+            return Compared::Lower;
+        }
+        Compared::Same
+    }
+}
+
+impl Compared {
+    pub fn is_higher(self) -> bool
+        ensures { λ r. ⌜ r ≡ isHigher self ⌝ }
+    {
+        match self {
+            Compared::None => false,
+            Compared::Lower => false,
+            Compared::Same => false,
+            Compared::Higher => true,
+        }
+    }
+
+    pub fn is_same(self) -> bool
+        ensures { λ r. ⌜ r ≡ isSame self ⌝ }
+    {
+        match self {
+            Compared::None => false,
+            Compared::Lower => false,
+            Compared::Same => true,
+            Compared::Higher => false,
+        }
     }
 }

@@ -1,6 +1,7 @@
-// What an outcome says in document 01's numbers.
+// What an outcome says in document 01's numbers, and a comparison as a number.
 ghost use mathlib.Core.Path.{_≡_};
-ghost use Rattle.parts.specs.Outcomes.{outcomeNumber, outcomeTag, outcomeValue};
+ghost use Rattle.parts.specs.Outcomes.{outcomeNumber, outcomeTag, outcomeValue, comparedNumber};
+use crate::Compared;
 use crate::Outcome;
 use crate::Tag;
 
@@ -49,6 +50,19 @@ impl Outcome {
             Outcome::Turned => 0,
             Outcome::Finished(_, v) => v,
             Outcome::Discarded => 0,
+        }
+    }
+}
+
+impl Compared {
+    pub fn number(self) -> u32
+        ensures { λ r. ⌜ r ≡ comparedNumber self ⌝ }
+    {
+        match self {
+            Compared::None => 0,
+            Compared::Lower => 1,
+            Compared::Same => 2,
+            Compared::Higher => 3,
         }
     }
 }
