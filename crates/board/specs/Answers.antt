@@ -5,17 +5,24 @@ use mathlib.Core.List.{List, [], _∷_}
 use Rattle.board.specs.declared.Board.{Board}
 use Rattle.parts.specs.declared.Outcome.{Outcome}
 use Rattle.parts.specs.declared.Outcome.the-variants.{Refused}
+use Rattle.parts.specs.declared.Compared.{Compared}
+use Rattle.parts.specs.declared.Compared.the-variants.{None}
 use Rattle.board.specs.declared.Answer.{Answer}
 
 -- ---- answers
 
--- an accepted step
-abbrev pub answer : Outcome → Board → Answer
-answer o b = record { outcome = o; refusal = 0; board = b }
+-- an accepted delivery that takes a reply in, whose tag compared so (document 02, Paper 3)
+abbrev pub answerTo : Compared → Outcome → Board → Answer
+answerTo w o b = record { outcome = o; refusal = 0; compared = w; board = b }
 
--- 'The first no gives the refusal with that number; the board comes back unchanged, with no outcome, tag and value 0'
+-- an accepted step 'that takes no reply in, says none'
+abbrev pub answer : Outcome → Board → Answer
+answer o b = answerTo None o b
+
+-- 'The first no gives the refusal with that number; the board comes back unchanged, with no outcome, tag and value 0'; 'a
+-- refused delivery .. says none'
 abbrev pub refuse : ℕ → Board → Answer
-refuse r b = record { outcome = Refused; refusal = r; board = b }
+refuse r b = record { outcome = Refused; refusal = r; compared = None; board = b }
 
 -- ---- questions
 

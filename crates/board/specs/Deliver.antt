@@ -1,4 +1,5 @@
--- Deliver (document 01, 'The steps'): one definition for each kind of frame.
+-- Deliver (document 01, 'The steps'): one definition for each kind of frame. Of its answers only that to a reply which is taken
+-- in says how the tag compared (document 02, Paper 3).
 use Prim.Native.Nat.{ℕ}
 use mathlib.Core.Bool.{cond}
 use mathlib.Core.List.{[], _∷_}
@@ -8,15 +9,18 @@ use Rattle.parts.specs.declared.Frame.{Frame}
 use Rattle.parts.specs.declared.Frame.the-variants.{Nothing, Ask, Reply, Put, Ack}
 use Rattle.parts.specs.declared.State.the-variants.{Idle}
 use Rattle.parts.specs.declared.Console.{Console}
+use Rattle.parts.specs.declared.Compared.{Compared}
+use Rattle.parts.specs.declared.Compared.the-variants.{None}
 use Rattle.parts.specs.AnsweredSet.{size}
 use Rattle.parts.specs.Sizes.{askSize, tellSize}
 use Rattle.parts.specs.Parts.{isAsking, isTelling}
-use Rattle.changes.specs.Changes.{taken, rests, awaits, hears, tells, acked}
+use Rattle.changes.specs.declared.TakenIn.{TakenIn}
+use Rattle.changes.specs.Changes.{taken, rests, awaits, takesIn, tells, acked}
 use Rattle.board.specs.declared.Board.{Board}
 use Rattle.parts.specs.declared.Outcome.the-variants.{Handed, Heard, Turned, Finished, Discarded}
 use Rattle.board.specs.declared.Answer.{Answer}
 use Rattle.board.specs.Boards.{nodeAt, consoleAt, frameAt, withNode, withConsole, withFrame, withRow}
-use Rattle.board.specs.Answers.{answer, guarded}
+use Rattle.board.specs.Answers.{answerTo, answer, guarded}
 use Rattle.board.specs.Questions.{is-well-formed, has-console, has-node, holds-frame, node-is-up, has-next-ts}
 
 -- a frame that goes to the node: 'nothing is delivered to' a node that is down
@@ -36,26 +40,26 @@ unfoldable pub discards : Board → ℕ → ℕ → Answer
 discards b c k = answer Discarded (withFrame b c k Nothing)
 
 -- 'the cell empties', console c becomes x, and 'the outcome is heard'
-unfoldable pub heard : Board → ℕ → ℕ → Console → Answer
-heard b c k x = answer Heard (withConsole (withFrame b c k Nothing) c x)
+unfoldable pub heard : Compared → Board → ℕ → ℕ → Console → Answer
+heard w b c k x = answerTo w Heard (withConsole (withFrame b c k Nothing) c x)
 
 -- 'the console becomes telling .. all n cells become put with that tag and value'; x is the console with the reply taken in
 unfoldable pub turned : Board → ℕ → Console → Board
 turned b c x = withConsole (withRow b c (Put (tells c x .best) (tells c x .value))) c (tells c x)
 
--- a reply that is taken in, with which console c is x: 'With fewer than q answers the outcome is heard. At q answers the
--- console becomes telling .. Outcome: turned'
-unfoldable pub replied : Board → ℕ → ℕ → Console → Answer
-replied b c k x =
-    cond (ltb (size (x .answered)) (askSize (b .setup)))
-    (heard b c k x)
-    (guarded (has-next-ts x ∷ []) b (answer Turned (turned b c x)))
+-- the reply r is taken in: 'With fewer than q answers the outcome is heard. At q answers the console becomes telling .. Outcome:
+-- turned'. Both pass on how its tag compared
+unfoldable pub replied : Board → ℕ → ℕ → TakenIn → Answer
+replied b c k r =
+    cond (ltb (size (r .console .answered)) (askSize (b .setup)))
+    (heard (r .compared) b c k (r .console))
+    (guarded (has-next-ts (r .console) ∷ []) b (answerTo (r .compared) Turned (turned b c (r .console))))
 
 -- Reply, 'at an asking console that has no answer yet from this node'
 unfoldable pub onReply : Board → ℕ → ℕ → Tag → ℕ → Answer
 onReply b c k t v =
     cond (awaits isAsking (consoleAt b c) k)
-    (replied b c k (hears (consoleAt b c) k t v))
+    (replied b c k (takesIn (consoleAt b c) k t v))
     (discards b c k)
 
 -- an ack that is taken in, with which console c is x: 'Below q: heard. At q the console becomes idle and its own fields
@@ -63,7 +67,7 @@ onReply b c k t v =
 unfoldable pub acknowledged : Board → ℕ → ℕ → Console → Answer
 acknowledged b c k x =
     cond (ltb (size (x .answered)) (tellSize (b .setup)))
-    (heard b c k x)
+    (heard None b c k x)
     (answer (Finished (x .best) (x .value)) (withConsole (withFrame b c k Nothing) c (rests Idle x)))
 
 -- Ack, 'at a telling console that has no answer yet from this node'

@@ -1,5 +1,6 @@
 // The board: one register copied on n nodes, its m consoles, and every frame in flight between them.
 pub use parts::Cell;
+pub use parts::Compared;
 pub use parts::Console;
 pub use parts::ConsoleId;
 pub use parts::Frame;
@@ -20,10 +21,12 @@ pub struct Board {
     pub cells: [Cell; parts::CELLS],
 }
 
-// What a step answers: the outcome, the number of the question that refused it (0: none did), and the next board.
+// What a step answers: the outcome, the number of the question that refused it (0: none did), how the tag of a reply that it
+// took in compared with the old best, and the next board.
 pub struct Answer {
     pub outcome: Outcome,
     pub refusal: u32,
+    pub compared: Compared,
     pub board: Board,
 }
 

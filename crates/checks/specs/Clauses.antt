@@ -1,6 +1,7 @@
--- Well-formedness (document 01, 'A board is well formed if'), part by part: each clause of the sentence is one line.
+-- Well-formedness (document 01, 'A board is well formed if'; of the mark: document 02, Paper 3), part by part: each clause of
+-- the sentence is one line.
 use Prim.Native.Nat.{ℕ}
-use mathlib.Core.Bool.{Bool, true, cond, _&&_}
+use mathlib.Core.Bool.{Bool, true, cond, not, _&&_}
 use mathlib.Core.List.{List}
 use lib.Dec.{leb, ltb, eqb}
 use Rattle.parts.specs.declared.Tag.{Tag}
@@ -86,9 +87,21 @@ stateOk σ x (Asking w) =
 stateOk σ x (Telling w) = waitOk σ (tellSize σ) w x
 stateOk σ x Down = restOk x
 
+-- 'The mark is off in the telling, idle and down states and while nothing is answered, on at exactly one answer of asking'
+unfoldable pub markOk : Console → State → Bool
+markOk x (Telling w) = not (x .alike)
+markOk x Idle = not (x .alike)
+markOk x Down = not (x .alike)
+markOk x (Asking w) =
+    -- 'off .. while nothing is answered'
+    (eqb (x .answered) 0 implies not (x .alike))
+    -- 'on at exactly one answer of asking'
+    && (eqb (size (x .answered)) 1 implies x .alike)
+
 unfoldable pub consoleOk : Setup → ℕ → Console → Bool
 consoleOk σ c x =
-    cond (ltb c (σ .m)) (tagOk σ (x .best) (x .value) && stateOk σ x (x .state))
+    markOk x (x .state)
+    && cond (ltb c (σ .m)) (tagOk σ (x .best) (x .value) && stateOk σ x (x .state))
     -- 'consoles .. beyond .. m are .. idle'
     (isIdle (x .state) && restOk x)
 

@@ -1,6 +1,6 @@
 // The clauses on consoles.
 ghost use mathlib.Core.Path.{_≡_};
-ghost use Rattle.checks.specs.Clauses.{restOk, wantedOk, waitOk, stateOk, consoleOk, consolesOk};
+ghost use Rattle.checks.specs.Clauses.{restOk, wantedOk, waitOk, stateOk, markOk, consoleOk, consolesOk};
 use crate::tags::is_tag_ok;
 use crate::tags::is_zero;
 use parts::CONSOLES;
@@ -67,10 +67,33 @@ fn is_state_ok(setup: Setup, x: Console, s: State) -> bool
     }
 }
 
+// The mark of a console in state s.
+fn is_mark_ok(x: Console, s: State) -> bool
+    ensures { λ r. ⌜ r ≡ markOk x s ⌝ }
+{
+    match s {
+        State::Idle => !x.alike,
+        State::Asking(_) => {
+            if x.answered == 0 {
+                return !x.alike;
+            }
+            if set_size(x.answered) != 1 {
+                return true;
+            }
+            x.alike
+        }
+        State::Telling(_) => !x.alike,
+        State::Down => !x.alike,
+    }
+}
+
 fn is_console_ok(setup: Setup, c: ConsoleId, x: Console) -> bool
     ensures { λ r. ⌜ r ≡ consoleOk setup (c .0) x ⌝ }
 {
     let s = x.state;
+    if !is_mark_ok(x, s) {
+        return false;
+    }
     if c.0 < setup.m {
         if !is_tag_ok(setup, x.best, x.value) {
             return false;

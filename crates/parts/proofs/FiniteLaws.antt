@@ -27,6 +27,10 @@ pub and-right : (x y : Bool) → (x && y) ≡ true → y ≡ true
 and-right true y h = h
 and-right false y h = cc
 
+pub and-true : (x : Bool) → (x && true) ≡ x
+and-true true = refl
+and-true false = refl
+
 and-false : (x y : Bool) → y ≡ false → (x && y) ≡ false
 and-false true y h = h
 and-false false y h = refl
