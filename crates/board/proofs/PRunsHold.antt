@@ -3,12 +3,12 @@
 use mathlib.Core.List.{List, map}
 use mathlib.Core.Path.{_≡_, refl}
 use Rattle.parts.specs.Finite.{every, count}
-use Rattle.parts.specs.Tags.{greater}
+use Rattle.parts.specs.Tags.{greater, compared}
 use Rattle.parts.specs.AnsweredSet.{member, insert, size, onlyBelow}
 use Rattle.parts.specs.Sizes.{majority, askSize, tellSize}
 use Rattle.parts.specs.Parts.{nodeIn, consoleIn, frameIn, place, setFrame, setRow}
-use Rattle.checks.specs.Clauses.{nodesAllowed, consolesAllowed, setupOk, isZero, tagOk, nodeOk, nodesOk, restOk, wantedOk, waitOk, stateOk, consoleOk, consolesOk, frameOk, cellOk, rowOk, cellsOk}
-use Rattle.changes.specs.Changes.{withUp, taken, rests, asks, awaits, hears, nextTag, tells, acked}
+use Rattle.checks.specs.Clauses.{nodesAllowed, consolesAllowed, setupOk, isZero, tagOk, nodeOk, nodesOk, restOk, wantedOk, waitOk, stateOk, markOk, consoleOk, consolesOk, frameOk, cellOk, rowOk, cellsOk}
+use Rattle.changes.specs.Changes.{withUp, taken, rests, asks, awaits, stillAlike, hears, takesIn, nextTag, tells, acked}
 use Rattle.board.specs.Boards.{nodeAt, consoleAt, frameAt, withNode, withConsole, withFrame, withRow, freshBoard}
 use Rattle.board.specs.WellFormed.{wellFormed}
 use Rattle.board.specs.Answers.{guarded}
@@ -20,7 +20,7 @@ use Rattle.board.specs.UpRuns.{upRuns}
 
 -- what runs show, with every definition opened
 opened : List PRun → List (List Seen)
-unfolding every count greater member insert size onlyBelow majority askSize tellSize nodeIn consoleIn frameIn place setFrame setRow nodesAllowed consolesAllowed setupOk isZero tagOk nodeOk nodesOk restOk wantedOk waitOk stateOk consoleOk consolesOk frameOk cellOk rowOk cellsOk withUp taken rests asks awaits hears nextTag tells acked nodeAt consoleAt frameAt withNode withConsole withFrame withRow freshBoard wellFormed guarded fresh begun begin nodeDown nodeUp consoleDown toNode onAsk onPut discards heard turned replied onReply acknowledged onAck onFrame deliver step seen after allSeen
+unfolding every count greater compared member insert size onlyBelow majority askSize tellSize nodeIn consoleIn frameIn place setFrame setRow nodesAllowed consolesAllowed setupOk isZero tagOk nodeOk nodesOk restOk wantedOk waitOk stateOk markOk consoleOk consolesOk frameOk cellOk rowOk cellsOk withUp taken rests asks awaits stillAlike hears takesIn nextTag tells acked nodeAt consoleAt frameAt withNode withConsole withFrame withRow freshBoard wellFormed guarded fresh begun begin nodeDown nodeUp consoleDown toNode onAsk onPut discards heard turned replied onReply acknowledged onAck onFrame deliver step seen after allSeen
 opened rs = map shows rs
 
 pub p-runs-hold : map shows pRuns ≡ map mustShow pRuns

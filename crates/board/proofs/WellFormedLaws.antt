@@ -11,7 +11,7 @@ use Rattle.parts.specs.declared.Frame.the-variants.{Reply, Put}
 use Rattle.parts.specs.declared.Setup.{Setup}
 use Rattle.parts.specs.Limits.{maxTs}
 use Rattle.parts.proofs.FiniteLaws.{and-left, and-right, every-at}
-use Rattle.checks.specs.Clauses.{nodesAllowed, consolesAllowed, setupOk, tagOk, nodeOk, nodesOk, consoleOk, consolesOk, frameOk, cellOk, rowOk, cellsOk}
+use Rattle.checks.specs.Clauses.{nodesAllowed, consolesAllowed, setupOk, tagOk, nodeOk, nodesOk, markOk, consoleOk, consolesOk, frameOk, cellOk, rowOk, cellsOk}
 use Rattle.board.specs.declared.Board.{Board}
 use Rattle.board.specs.Boards.{nodeAt, consoleAt, frameAt}
 use Rattle.board.specs.WellFormed.{wellFormed}
@@ -61,7 +61,7 @@ module _ (b : Board) (h : wellFormed b ≡ true) where
 
     best-tag : tagOk (b .setup) (consoleAt b c .best) (consoleAt b c .value) ≡ true
     unfolding consoleOk
-    best-tag = and-left (tagOk (b .setup) (consoleAt b c .best) (consoleAt b c .value)) _ (rw (lt-ltb c (b .setup .m) cm) at console-passes)
+    best-tag = and-left (tagOk (b .setup) (consoleAt b c .best) (consoleAt b c .value)) _ (and-right (markOk (consoleAt b c) (consoleAt b c .state)) _ (rw (lt-ltb c (b .setup .m) cm) at console-passes))
 
     row-passes : rowOk (b .setup) (b .cells) c ≡ true
     unfolding cellsOk

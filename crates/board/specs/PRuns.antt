@@ -1,7 +1,7 @@
 -- The proved set of document 01, 'Runs to check by': P1 to P10 as one list, with what every step must answer and the
 -- facts that the paper states. proofs/PRunsHold.antt proves that the definitions give all of it.
 use Prim.Native.Nat.{ℕ}
-use mathlib.Core.Bool.{true}
+use mathlib.Core.Bool.{true, false}
 use mathlib.Core.List.{List, [], _∷_, _++_, map}
 use lib.ListN.{replicate, take}
 use Rattle.parts.specs.declared.Tag.{Tag}
@@ -246,7 +246,7 @@ p9-board t =
     record {
       setup = setupOf 1 1;
       nodes = record { up = true; tag = tag t 0; value = 5 } ∷ replicate 4 freshNode;
-      consoles = record { state = Asking Write; wanted = 7; answered = 0; best = zeroTag; value = 0 } ∷ replicate 7 idleConsole;
+      consoles = record { state = Asking Write; wanted = 7; answered = 0; best = zeroTag; value = 0; alike = false } ∷ replicate 7 idleConsole;
       cells = cellOf (Reply (tag t 0) 5) ∷ replicate 39 (cellOf Nothing);
     }
 

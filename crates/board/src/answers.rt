@@ -1,20 +1,29 @@
-// The two ways to answer a step.
+// The ways to answer a step.
 ghost use mathlib.Core.Path.{_≡_};
-ghost use Rattle.board.specs.Answers.{answer, refuse};
+ghost use Rattle.board.specs.Answers.{answerTo, answer, refuse};
 use crate::Answer;
 use crate::Board;
+use parts::Compared;
 use parts::Outcome;
 
 impl Answer {
-    // A step that was done, with the next board.
-    pub(crate) fn accepted(outcome: Outcome, board: Board) -> Answer
-        ensures { λ r. ⌜ r ≡ answer outcome board ⌝ }
+    // A delivery that took a reply in, with how its tag compared and the next board.
+    pub(crate) fn accepted_reply(compared: Compared, outcome: Outcome, board: Board) -> Answer
+        ensures { λ r. ⌜ r ≡ answerTo compared outcome board ⌝ }
     {
         Answer {
             outcome: outcome,
             refusal: 0,
+            compared: compared,
             board: board,
         }
+    }
+
+    // A step that was done and took no reply in, with the next board.
+    pub(crate) fn accepted(outcome: Outcome, board: Board) -> Answer
+        ensures { λ r. ⌜ r ≡ answer outcome board ⌝ }
+    {
+        Answer::accepted_reply(Compared::None, outcome, board)
     }
 
     // A step that is refused with this number, with the board to hand back.
@@ -24,6 +33,7 @@ impl Answer {
         Answer {
             outcome: Outcome::Refused,
             refusal: refusal,
+            compared: Compared::None,
             board: board,
         }
     }

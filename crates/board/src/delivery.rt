@@ -17,6 +17,7 @@ use crate::refusals::NO_SUCH_NODE;
 use crate::refusals::NODE_IS_DOWN;
 use crate::refusals::NOT_WELL_FORMED;
 use crate::refusals::TS_USED_UP;
+use changes::TakenIn;
 use changes::consoles::awaits_ack;
 use changes::consoles::awaits_reply;
 use changes::consoles::rest;
@@ -24,6 +25,7 @@ use changes::hearing::hear_ack;
 use changes::hearing::hear_reply;
 use changes::nodes::take_put;
 use changes::telling::tell;
+use parts::Compared;
 use parts::Console;
 use parts::ConsoleId;
 use parts::Frame;
@@ -114,18 +116,20 @@ fn deliver_reply(b: Board, c: ConsoleId, k: NodeId, t: Tag, v: u32) -> Answer
     take_reply(b, c, k, hear_reply(x, k, t, v))
 }
 
-// A reply is taken in, with which console c is x.
-fn take_reply(b: Board, c: ConsoleId, k: NodeId, x: Console) -> Answer
+// The reply of node k is taken in.
+fn take_reply(b: Board, c: ConsoleId, k: NodeId, reply: TakenIn) -> Answer
     requires { ⌜ InRange b (c .0) (k .0) ⌝ }
-    ensures { λ r. ⌜ r ≡ replied b (c .0) (k .0) x ⌝ }
+    ensures { λ r. ⌜ r ≡ replied b (c .0) (k .0) reply ⌝ }
 {
+    let x = reply.console;
+    let how = reply.compared;
     if set_size(x.answered) < b.setup.ask_size() {
-        return hear(b, c, k, x);
+        return hear(how, b, c, k, x);
     }
     if !has_next(x) {
         return Answer::refused(TS_USED_UP, b);
     }
-    Answer::accepted(Outcome::Turned, turned_at(b, c, x))
+    Answer::accepted_reply(how, Outcome::Turned, turned_at(b, c, x))
 }
 
 // Question 10: whether a write's timestamp can grow; x is the console with the reply taken in.
@@ -167,7 +171,7 @@ fn take_ack(b: Board, c: ConsoleId, k: NodeId, x: Console) -> Answer
     ensures { λ r. ⌜ r ≡ acknowledged b (c .0) (k .0) x ⌝ }
 {
     if set_size(x.answered) < b.setup.tell_size() {
-        return hear(b, c, k, x);
+        return hear(Compared::None, b, c, k, x);
     }
     let t = x.best;
     let next = b.with_frame(c, k, Frame::Nothing);
@@ -178,11 +182,12 @@ fn take_ack(b: Board, c: ConsoleId, k: NodeId, x: Console) -> Answer
 }
 
 // The cell empties, and console c is x.
-fn hear(b: Board, c: ConsoleId, k: NodeId, x: Console) -> Answer
+fn hear(how: Compared, b: Board, c: ConsoleId, k: NodeId, x: Console) -> Answer
     requires { ⌜ InRange b (c .0) (k .0) ⌝ }
-    ensures { λ r. ⌜ r ≡ heard b (c .0) (k .0) x ⌝ }
+    ensures { λ r. ⌜ r ≡ heard how b (c .0) (k .0) x ⌝ }
 {
-    Answer::accepted(
+    Answer::accepted_reply(
+        how,
         Outcome::Heard,
         b.with_frame(c, k, Frame::Nothing).with_console(c, x),
     )

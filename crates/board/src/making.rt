@@ -64,6 +64,7 @@ impl Board {
             answered: 0,
             best: zero,
             value: 0,
+            alike: false,
         };
         let cell = Cell {
             frame: Frame::Nothing,

@@ -9,9 +9,9 @@ use Rattle.parts.specs.AnsweredSet.{insert, member, onlyBelow, size}
 use Rattle.parts.specs.Finite.{count, every}
 use Rattle.parts.specs.Parts.{consoleIn, frameIn, nodeIn, place, setFrame, setRow}
 use Rattle.parts.specs.Sizes.{askSize, majority, tellSize}
-use Rattle.parts.specs.Tags.{greater}
-use Rattle.checks.specs.Clauses.{cellOk, cellsOk, consoleOk, consolesAllowed, consolesOk, frameOk, isZero, nodeOk, nodesAllowed, nodesOk, restOk, rowOk, setupOk, stateOk, tagOk, waitOk, wantedOk}
-use Rattle.changes.specs.Changes.{acked, asks, awaits, hears, nextTag, rests, taken, tells, withUp}
+use Rattle.parts.specs.Tags.{compared, greater}
+use Rattle.checks.specs.Clauses.{cellOk, cellsOk, consoleOk, consolesAllowed, consolesOk, frameOk, isZero, markOk, nodeOk, nodesAllowed, nodesOk, restOk, rowOk, setupOk, stateOk, tagOk, waitOk, wantedOk}
+use Rattle.changes.specs.Changes.{acked, asks, awaits, hears, nextTag, rests, stillAlike, taken, takesIn, tells, withUp}
 use Rattle.board.specs.Answers.{guarded}
 use Rattle.board.specs.Boards.{consoleAt, frameAt, freshBoard, nodeAt, withConsole, withFrame, withNode, withRow}
 use Rattle.board.specs.Deliver.{acknowledged, deliver, discards, heard, onAck, onAsk, onFrame, onPut, onReply, replied, toNode, turned}
@@ -25,7 +25,7 @@ use Rattle.guarantee.proofs.Theorem.{demand-3}
 
 -- a run with every definition opened
 whole : ℕ → ℕ → List Step → Run
-unfolding run start after next noted upAfter ofConsole every count greater member insert size onlyBelow majority askSize tellSize nodeIn consoleIn frameIn place setFrame setRow nodesAllowed consolesAllowed setupOk isZero tagOk nodeOk nodesOk restOk wantedOk waitOk stateOk consoleOk consolesOk frameOk cellOk rowOk cellsOk withUp taken rests asks awaits hears nextTag tells acked nodeAt consoleAt frameAt withNode withConsole withFrame withRow freshBoard wellFormed guarded fresh begun begin nodeDown nodeUp consoleDown toNode onAsk onPut discards heard turned replied onReply acknowledged onAck onFrame deliver step
+unfolding run start after next noted upAfter ofConsole every count greater compared member insert size onlyBelow majority askSize tellSize nodeIn consoleIn frameIn place setFrame setRow nodesAllowed consolesAllowed setupOk isZero tagOk nodeOk nodesOk restOk wantedOk waitOk stateOk markOk consoleOk consolesOk frameOk cellOk rowOk cellsOk withUp taken rests asks awaits stillAlike hears takesIn nextTag tells acked nodeAt consoleAt frameAt withNode withConsole withFrame withRow freshBoard wellFormed guarded fresh begun begin nodeDown nodeUp consoleDown toNode onAsk onPut discards heard turned replied onReply acknowledged onAck onFrame deliver step
 whole n m ss = run n m ss
 
 p4-reaches : whole 3 2 p4-steps .ops ≡ p4-log

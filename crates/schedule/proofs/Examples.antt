@@ -7,12 +7,12 @@ use Rattle.lines.specs.Lines.{indexOf, countOf, fromField, quoted, unquoted, fi
 use Rattle.text.specs.Text.{digits, decimal, joined, lineText}
 use Rattle.split.specs.Split.{chop, linesAfter}
 use Rattle.parts.specs.Finite.{every, count}
-use Rattle.parts.specs.Tags.{greater}
+use Rattle.parts.specs.Tags.{greater, compared}
 use Rattle.parts.specs.AnsweredSet.{member, insert, size, onlyBelow}
 use Rattle.parts.specs.Sizes.{majority, askSize, tellSize}
 use Rattle.parts.specs.Parts.{nodeIn, consoleIn, frameIn, place, setFrame, setRow}
-use Rattle.checks.specs.Clauses.{nodesAllowed, consolesAllowed, setupOk, isZero, tagOk, nodeOk, nodesOk, restOk, wantedOk, waitOk, stateOk, consoleOk, consolesOk, frameOk, cellOk, rowOk, cellsOk}
-use Rattle.changes.specs.Changes.{withUp, taken, rests, asks, awaits, hears, nextTag, tells, acked}
+use Rattle.checks.specs.Clauses.{nodesAllowed, consolesAllowed, setupOk, isZero, tagOk, nodeOk, nodesOk, restOk, wantedOk, waitOk, stateOk, markOk, consoleOk, consolesOk, frameOk, cellOk, rowOk, cellsOk}
+use Rattle.changes.specs.Changes.{withUp, taken, rests, asks, awaits, stillAlike, hears, takesIn, nextTag, tells, acked}
 use Rattle.board.specs.Boards.{nodeAt, consoleAt, frameAt, withNode, withConsole, withFrame, withRow, freshBoard}
 use Rattle.board.specs.WellFormed.{wellFormed}
 use Rattle.board.specs.Answers.{guarded}
@@ -47,5 +47,5 @@ examples =
     ∷ []
 
 pub schedules-printed : map (λ x. scheduleText (bytes (x .input))) examples ≡ map (λ x. bytes (x .must)) examples
-unfolding bytes indexOf countOf fromField quoted unquoted fieldOf allDigits valueFrom numOf lineOf digits decimal joined lineText chop linesAfter every count greater member insert size onlyBelow majority askSize tellSize nodeIn consoleIn frameIn place setFrame setRow nodesAllowed consolesAllowed setupOk isZero tagOk nodeOk nodesOk restOk wantedOk waitOk stateOk consoleOk consolesOk frameOk cellOk rowOk cellsOk withUp taken rests asks awaits hears nextTag tells acked nodeAt consoleAt frameAt withNode withConsole withFrame withRow freshBoard wellFormed guarded fresh begun begin nodeDown nodeUp consoleDown toNode onAsk onPut discards heard turned replied onReply acknowledged onAck onFrame deliver stepOf answerOf boardAfter rowOf effectOf nextNumber outputOf scheduleText examples
+unfolding bytes indexOf countOf fromField quoted unquoted fieldOf allDigits valueFrom numOf lineOf digits decimal joined lineText chop linesAfter every count greater compared member insert size onlyBelow majority askSize tellSize nodeIn consoleIn frameIn place setFrame setRow nodesAllowed consolesAllowed setupOk isZero tagOk nodeOk nodesOk restOk wantedOk waitOk stateOk markOk consoleOk consolesOk frameOk cellOk rowOk cellsOk withUp taken rests asks awaits stillAlike hears takesIn nextTag tells acked nodeAt consoleAt frameAt withNode withConsole withFrame withRow freshBoard wellFormed guarded fresh begun begin nodeDown nodeUp consoleDown toNode onAsk onPut discards heard turned replied onReply acknowledged onAck onFrame deliver stepOf answerOf boardAfter rowOf effectOf nextNumber outputOf scheduleText examples
 schedules-printed = refl

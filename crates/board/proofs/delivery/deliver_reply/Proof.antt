@@ -4,7 +4,7 @@ use native.Mathlib.Omega.{arith}
 use borrow.Author.Needs.{needs}
 use Rattle.board.proofs.WellFormedLaws.{best-below, within}
 use Rattle.board.specs.Deliver.{replied, onReply}
-use Rattle.changes.specs.Changes.{awaits, hears}
+use Rattle.changes.specs.Changes.{awaits, takesIn}
 use Rattle.parts.proofs.FiniteLaws.{said-no, said-yes}
 use Rattle.parts.specs.Parts.{isAsking}
 use Rattle.parts.specs.declared.Console.{Console}
@@ -34,7 +34,7 @@ returns-2 : tie.Need-returns-2
 unfolding onReply
 returns-2 c =
     let p = c .before .before .before .before .before .pre in
-    rw (said-yes (c .before .before .before .awaits-reply .ensures ∙ ap (λ (y : Console). awaits isAsking y (c .before .before .before .before .before .args .k .0)) (c .before .before .before .before .console-at .ensures)) (c .before .before .if1 .left)) (c .take-reply .ensures ∙ ap (replied _ _ _) (c .before .hear-reply .ensures (omega (arith, within (p .0) .1)) (rw (c .before .before .before .before .console-at .ensures) (best-below _ (p .0 .formed) _ _ (p .0 .c-m) (p .0 .k-n))) (p .1) ∙ ap (λ (y : Console). hears y (c .before .before .before .before .before .args .k .0) (c .before .before .before .before .before .args .t) (c .before .before .before .before .before .args .v)) (c .before .before .before .before .console-at .ensures)))
+    rw (said-yes (c .before .before .before .awaits-reply .ensures ∙ ap (λ (y : Console). awaits isAsking y (c .before .before .before .before .before .args .k .0)) (c .before .before .before .before .console-at .ensures)) (c .before .before .if1 .left)) (c .take-reply .ensures ∙ ap (replied _ _ _) (c .before .hear-reply .ensures (omega (arith, within (p .0) .1)) (rw (c .before .before .before .before .console-at .ensures) (best-below _ (p .0 .formed) _ _ (p .0 .c-m) (p .0 .k-n))) (p .1) ∙ ap (λ (y : Console). takesIn y (c .before .before .before .before .before .args .k .0) (c .before .before .before .before .before .args .t) (c .before .before .before .before .before .args .v)) (c .before .before .before .before .console-at .ensures)))
 
 pub deliver-reply-spec : {M : Type 1} → statement M
 deliver-reply-spec =

@@ -11,13 +11,13 @@ with-frame-requires c κs = (within (c .pre) .0, within (c .pre) .1)
 with-console-requires : tie.Need-with-console-requires
 with-console-requires c κs = within (c .before .pre) .0
 
-accepted-requires : tie.Need-accepted-requires
-accepted-requires c κs = search needs
+accepted-reply-requires : tie.Need-accepted-reply-requires
+accepted-reply-requires c κs = search needs
 
 returns : tie.Need-returns
 unfolding heard
-returns c = rw (c .accepted .ensures, c .before .with-console .ensures, c .before .before .with-frame .ensures)
+returns c = rw (c .accepted-reply .ensures, c .before .with-console .ensures, c .before .before .with-frame .ensures)
 
 pub hear-spec : {M : Type 1} → statement M
 hear-spec =
-    tie.close (tie.spec with-frame-requires with-console-requires accepted-requires returns)
+    tie.close (tie.spec with-frame-requires with-console-requires accepted-reply-requires returns)
