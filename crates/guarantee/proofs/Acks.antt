@@ -49,7 +49,7 @@ module _ {K : TagKind} {σ : Setup} {b : Board} {c k : ℕ} (d : Delivery K σ b
   pub hear-ack-effect : size (insert (consoleAt b c .answered) k) < tellSize (b .setup) → Effect K σ c b (answer Heard (withConsole (withFrame b c k Nothing) c x₁))
   unfolding acked
   hear-ack-effect few = record {
-    ok = console-ok d x₁ (d .ok .tagged .best c (d .c-m)) (acked-ok σ (consoleAt b c) k (five d) (d .k-n) p was-waiting (omega (arith, few, ap tellSize (d .ok .shape .setup-is)))) ack-row;
+    ok = console-ok d x₁ (d .ok .tagged .best c (d .c-m)) (acked-ok σ (consoleAt b c) k (five d) (d .k-n) p was-waiting (d .ok .console-in c (d .c-m) .mark) (omega (arith, few, ap tellSize (d .ok .shape .setup-is)))) ack-row;
     beside = console-side d x₁;
     ups = console-ups d x₁;
     own = going refl (console-going d x₁ refl

@@ -8,14 +8,15 @@ use native.Mathlib.Omega.{arith}
 use borrow.Author.Tests.{ltb-true, ltb-false, eqb-true, eqb-false, le-leb}
 use lib.Dec.{ltb, eqb}
 use Rattle.parts.specs.Finite.{every}
-use Rattle.parts.specs.Parts.{freshNode, idleConsole, isNothing}
+use Rattle.parts.specs.Parts.{freshNode, idleConsole, isIdle, isNothing}
 use Rattle.parts.specs.declared.Console.{Console}
 use Rattle.parts.specs.declared.Frame.{Frame}
 use Rattle.parts.specs.declared.Frame.the-variants.{Ack, Ask, Nothing, Put, Reply}
 use Rattle.parts.specs.declared.Node.{Node}
 use Rattle.parts.specs.declared.Setup.{Setup}
+use Rattle.parts.specs.declared.State.{State}
 use Rattle.parts.specs.declared.Tag.{Tag}
-use Rattle.checks.specs.Clauses.{cellOk, cellsOk, consoleOk, consolesAllowed, consolesOk, frameOk, isZero, nodeOk, nodesAllowed, nodesOk, restOk, rowOk, setupOk, stateOk, tagOk}
+use Rattle.checks.specs.Clauses.{cellOk, cellsOk, consoleOk, consolesAllowed, consolesOk, frameOk, isZero, markOk, nodeOk, nodesAllowed, nodesOk, restOk, rowOk, setupOk, stateOk, tagOk}
 use Rattle.board.specs.Boards.{consoleAt, frameAt, nodeAt, withConsole, withFrame, withNode, withRow}
 use Rattle.board.specs.WellFormed.{wellFormed}
 use Rattle.board.specs.declared.Board.{Board}
@@ -46,10 +47,15 @@ pub record Holds (K : TagKind) (σ : Setup) (b : Board) : Type 0 where
   pub best : (c : ℕ) → c < σ .m → K (consoleAt b c .best) (consoleAt b c .value)
   pub frame : (c k : ℕ) → c < σ .m → k < σ .n → FrameHas K (frameAt b c k)
 
+-- a console in state s passes the tests of its state and of its mark
+pub record Passes (σ : Setup) (s : State) (x : Console) : Type 0 where
+  pub state : stateOk σ x s ≡ true
+  pub mark : markOk x s ≡ true
+
 pub record BoardOk (K : TagKind) (σ : Setup) (b : Board) : Type 0 where
   pub shape : Shape σ b
   pub tagged : Holds K σ b
-  pub console-in : (c : ℕ) → c < σ .m → stateOk σ (consoleAt b c) (consoleAt b c .state) ≡ true
+  pub console-in : (c : ℕ) → c < σ .m → Passes σ (consoleAt b c .state) (consoleAt b c)
   pub node-out : (k : ℕ) → σ .n ≤ k → nodeAt b k ≡ freshNode
   pub console-out : (c : ℕ) → σ .m ≤ c → consoleAt b c ≡ idleConsole
   pub frame-out : (c k : ℕ) → k < 5 → (σ .m ≤ c) ⊎ (σ .n ≤ k) → frameAt b c k ≡ Nothing
@@ -132,7 +138,7 @@ same-floor σ {x} {y} {fr} {fr′} {tg} {t} e f h = rw e (record { asks = λ p. 
 pub kept : {K : TagKind} {σ : Setup} (c : ℕ) (b b′ : Board) → c < σ .m → Beside σ c b b′ → BoardOk K σ b
     → ((k : ℕ) → k < σ .n → K (nodeAt b′ k .tag) (nodeAt b′ k .value))
     → K (consoleAt b′ c .best) (consoleAt b′ c .value)
-    → stateOk σ (consoleAt b′ c) (consoleAt b′ c .state) ≡ true
+    → Passes σ (consoleAt b′ c .state) (consoleAt b′ c)
     → ((k : ℕ) → k < σ .n → FrameHas K (frameAt b′ c k))
     → ((k : ℕ) → σ .n ≤ k → k < 5 → frameAt b′ c k ≡ frameAt b c k)
     → RowOk σ (consoleAt b′ c) (frameAt b′ c) (tags b′)
@@ -145,7 +151,7 @@ kept {K} {σ} c b b′ cm s h nodes best con frames beyond row = record {
     frame = λ d k l i. at-c (λ d. d < σ .m → FrameHas K (frameAt b′ d k)) (λ _. frames k i) (λ d e l. rw (s .frame d e k (omega (arith, h .shape .allowed .n-5))) (h .tagged .frame d k l i)) d l;
   };
   node-out = λ k l. s .node-out k l ∙ h .node-out k l;
-  console-in = λ d l. at-c (λ d. d < σ .m → stateOk σ (consoleAt b′ d) (consoleAt b′ d .state) ≡ true) (λ _. con) (λ d e l. rw (s .console d e) (h .console-in d l)) d l;
+  console-in = λ d l. at-c (λ d. d < σ .m → Passes σ (consoleAt b′ d .state) (consoleAt b′ d)) (λ _. con) (λ d e l. rw (s .console d e) (h .console-in d l)) d l;
   console-out = λ d l. s .console d (omega arith) ∙ h .console-out d l;
   frame-out = λ d k l o. at-c (λ d. (σ .m ≤ d) ⊎ (σ .n ≤ k) → frameAt b′ d k ≡ Nothing) (own k l) (λ d e o. s .frame d e k l ∙ h .frame-out d k l o) d o;
   rows = λ d l. at-c (λ d. d < σ .m → RowOk σ (consoleAt b′ d) (frameAt b′ d) (tags b′)) (λ _. row)
@@ -216,10 +222,13 @@ module _ {σ : Setup} (b : Board) (h : BoardOk (Good σ) σ b) where
   node-passes k l = split (λ x. x ≡ true) (ltb k (σ .n)) (λ e. h .tagged .node k (omega (arith, ltb-true))) (λ e. rw (h .node-out k (omega (arith, ltb-false))))
 
   console-passes : (c : ℕ) → c < 8 → consoleOk σ c (consoleAt b c) ≡ true
-  unfolding consoleOk restOk isZero
-  console-passes c l = split (λ x. x ≡ true) (ltb c (σ .m))
-      (λ e. both (h .tagged .best c (omega (arith, ltb-true))) (h .console-in c (omega (arith, ltb-true))))
-      (λ e. rw (h .console-out c (omega (arith, ltb-false))))
+  unfolding consoleOk restOk isZero markOk
+  console-passes c l = go (ltb c (σ .m)) refl
+    where
+      go : (x : Bool) → ltb c (σ .m) ≡ x
+          → (markOk (consoleAt b c) (consoleAt b c .state) && cond x (tagOk σ (consoleAt b c .best) (consoleAt b c .value) && stateOk σ (consoleAt b c) (consoleAt b c .state)) (isIdle (consoleAt b c .state) && restOk (consoleAt b c))) ≡ true
+      go true e = both (h .console-in c (omega (arith, ltb-true)) .mark) (both (h .tagged .best c (omega (arith, ltb-true))) (h .console-in c (omega (arith, ltb-true)) .state))
+      go false e = rw (h .console-out c (omega (arith, ltb-false)))
 
   cell-passes : (c : ℕ) → c < 8 → (k : ℕ) → k < 5 → cellOk σ c k (frameAt b c k) ≡ true
   unfolding cellOk

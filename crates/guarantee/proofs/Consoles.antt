@@ -1,14 +1,14 @@
 -- The tests of tags and of consoles: what they give, and that each change of a console passes them and keeps the kind of
 -- its tag.
 use Prim.Native.Nat.{ℕ, _+_, _^_, _≤_, _<_}
-use mathlib.Core.Bool.{Bool, true, false, cond, _&&_}
+use mathlib.Core.Bool.{Bool, true, false, cond, not, _&&_, _||_}
 use mathlib.Core.Path.{refl, sym, subst, _≡_}
 use native.Mathlib.Omega.{arith}
-use borrow.Author.Tests.{ltb-true, ne-eqb, lt-ltb, le-leb}
+use borrow.Author.Tests.{ltb-true, eqb-true, eq-eqb, ne-eqb, lt-ltb, le-leb}
 use lib.Dec.{ltb, leb, eqb}
-use Rattle.parts.proofs.FiniteLaws.{and-left, and-right}
-use Rattle.parts.specs.AnsweredSet.{insert, onlyBelow, size}
-use Rattle.parts.specs.Finite.{_implies_}
+use Rattle.parts.proofs.FiniteLaws.{and-left, and-right, implied}
+use Rattle.parts.specs.AnsweredSet.{insert, member, onlyBelow, size}
+use Rattle.parts.specs.Finite.{_implies_, count}
 use Rattle.parts.specs.Limits.{maxTs}
 use Rattle.parts.specs.Parts.{isAsking, isTelling, isWaiting, toTelling, writes}
 use Rattle.parts.specs.Sizes.{askSize, tellSize}
@@ -20,13 +20,13 @@ use Rattle.parts.specs.declared.Setup.{Setup}
 use Rattle.parts.specs.declared.State.{State}
 use Rattle.parts.specs.declared.State.the-variants.{Asking, Down, Idle, Telling}
 use Rattle.parts.specs.declared.Tag.{Tag}
-use Rattle.checks.specs.Clauses.{isZero, restOk, stateOk, tagOk, waitOk, wantedOk}
-use Rattle.changes.specs.Changes.{acked, asks, hears, nextTag, rests, taken, tells}
-use Rattle.guarantee.proofs.Sets.{insert-small, insert-some, power-pos, size-empty, small-32}
+use Rattle.checks.specs.Clauses.{isZero, markOk, restOk, stateOk, tagOk, waitOk, wantedOk}
+use Rattle.changes.specs.Changes.{acked, asks, hears, nextTag, rests, stillAlike, taken, tells}
+use Rattle.guarantee.proofs.Sets.{insert-first, insert-small, insert-some, power-pos, size-empty, small-32}
 use Rattle.guarantee.proofs.Tags.{Small, greater-false, greater-true, key}
 use Rattle.guarantee.proofs.Sizes.{Allowed, ask-pos, sizeFor, tell-pos}
-use Rattle.guarantee.proofs.States.{ask-size-for, both, contra, split, tell-size-for, turns}
-use Rattle.guarantee.proofs.Boards.{Good, TagKind}
+use Rattle.guarantee.proofs.States.{ask-size-for, both, contra, implies-of, split, tell-size-for, turns}
+use Rattle.guarantee.proofs.Boards.{Good, Passes, TagKind}
 
 -- ---- good tags
 
@@ -92,26 +92,74 @@ telling-ok σ x (Asking k) e w = absurd (contra e refl)
 telling-ok σ x (Telling k) e w = wait-ok σ (tellSize σ) k x (w .small) (w .fewer) (w .want)
 telling-ok σ x Down e w = absurd (contra e refl)
 
-pub rests-ok : (σ : Setup) (x : Console) → (stateOk σ (rests Idle x) Idle ≡ true) × (stateOk σ (rests Down x) Down ≡ true)
-unfolding stateOk restOk isZero rests
-rests-ok σ x = (refl, refl)
+-- an asking console that nobody has answered has best (0, 0)
+pub asking-zero : (σ : Setup) (x : Console) (s : State) → isAsking s ≡ true → stateOk σ x s ≡ true → eqb (x .answered) 0 ≡ true → key (x .best) ≡ 0
+unfolding stateOk isZero
+asking-zero σ x Idle e h z = absurd (contra e refl)
+asking-zero σ x (Telling k) e h z = absurd (contra e refl)
+asking-zero σ x Down e h z = absurd (contra e refl)
+asking-zero σ x (Asking k) e h z =
+    let zero = and-left (eqb (x .best .ts) 0 && eqb (x .best .console) 0) _ (implied (eqb (x .answered) 0) _ (and-right (waitOk σ (askSize σ) k x) _ h) z) in
+    omega (arith, eqb-true (x .best .ts) 0 (and-left (eqb (x .best .ts) 0) _ zero), eqb-true (x .best .console) 0 (and-right (eqb (x .best .ts) 0) _ zero))
 
-pub asks-ok : (σ : Setup) (w : Kind) (v : ℕ) (x : Console) → Allowed σ → wantedOk w v ≡ true → stateOk σ (asks w v x) (Asking w) ≡ true
-unfolding asks isZero
-asks-ok σ w v x al h = asking-ok σ (asks w v x) (Asking w) refl (record { small = power-pos (σ .n) (al .n-5); fewer = omega (arith, size-empty, ask-pos al); want = h }) refl
+-- ---- the mark
 
-pub hears-ok : (σ : Setup) (x : Console) (k : ℕ) (u : Tag) (v : ℕ) → σ .n ≤ 5 → k < σ .n → isAsking (x .state) ≡ true → WaitsOk σ (x .state) x
-    → size (insert (x .answered) k) < askSize σ → stateOk σ (hears x k u v) (x .state) ≡ true
+-- an ack leaves it as it is
+acked-mark : (x : Console) (k : ℕ) (s : State) → isTelling s ≡ true → markOk x s ≡ true → markOk (acked x k) s ≡ true
+unfolding markOk acked
+acked-mark x k Idle e h = absurd (contra e refl)
+acked-mark x k (Asking w) e h = absurd (contra e refl)
+acked-mark x k (Telling w) e h = h
+acked-mark x k Down e h = absurd (contra e refl)
+
+-- the turn takes it away
+tells-mark : (c : ℕ) (x : Console) (s : State) → isTelling s ≡ true → markOk (tells c x) s ≡ true
+unfolding markOk tells
+tells-mark c x Idle e = refl
+tells-mark c x (Asking w) e = absurd (contra e refl)
+tells-mark c x (Telling w) e = refl
+tells-mark c x Down e = refl
+
+-- after a reply there is an answer, and the only one is the first, which sets it
+hears-mark : (x : Console) (k : ℕ) (u : Tag) (v : ℕ) (s : State) → x .answered < 32 → k < 5 → member (x .answered) k ≡ false → isAsking s ≡ true → markOk (hears x k u v) s ≡ true
+unfolding markOk hears stillAlike
+hears-mark x k u v Idle h l un e = absurd (contra e refl)
+hears-mark x k u v (Telling w) h l un e = absurd (contra e refl)
+hears-mark x k u v Down h l un e = absurd (contra e refl)
+hears-mark x k u v (Asking w) h l un e = rw (insert-some (x .answered) k h l)
+    (implies-of (eqb (size (insert (x .answered) k)) 1) _ (λ o. rw (eq-eqb (x .answered) 0 (insert-first (x .answered) k h l un o))))
+
+-- ---- the changes of a console pass the tests
+
+pub rests-ok : (σ : Setup) (x : Console) → Passes σ Idle (rests Idle x) × Passes σ Down (rests Down x)
+unfolding stateOk restOk isZero rests markOk
+rests-ok σ x = (record { state = refl; mark = refl }, record { state = refl; mark = refl })
+
+pub asks-ok : (σ : Setup) (w : Kind) (v : ℕ) (x : Console) → Allowed σ → wantedOk w v ≡ true → Passes σ (Asking w) (asks w v x)
+unfolding asks isZero markOk size count member
+asks-ok σ w v x al h = record {
+  state = asking-ok σ (asks w v x) (Asking w) refl (record { small = power-pos (σ .n) (al .n-5); fewer = omega (arith, size-empty, ask-pos al); want = h }) refl;
+  mark = refl;
+}
+
+pub hears-ok : (σ : Setup) (x : Console) (k : ℕ) (u : Tag) (v : ℕ) → σ .n ≤ 5 → k < σ .n → isAsking (x .state) ≡ true → WaitsOk σ (x .state) x → member (x .answered) k ≡ false
+    → size (insert (x .answered) k) < askSize σ → Passes σ (x .state) (hears x k u v)
 unfolding hears
-hears-ok σ x k u v five l p w few = asking-ok σ (hears x k u v) (x .state) p
-    (record { small = insert-small (σ .n) (x .answered) k five (w .small) l; fewer = omega (arith, few, ask-size-for σ (x .state) p); want = w .want })
-    (rw (insert-some (x .answered) k (small-32 (σ .n) (x .answered) five (w .small)) (omega arith)))
+hears-ok σ x k u v five l p w un few = record {
+  state = asking-ok σ (hears x k u v) (x .state) p
+      (record { small = insert-small (σ .n) (x .answered) k five (w .small) l; fewer = omega (arith, few, ask-size-for σ (x .state) p); want = w .want })
+      (rw (insert-some (x .answered) k (small-32 (σ .n) (x .answered) five (w .small)) (omega arith)));
+  mark = hears-mark x k u v (x .state) (small-32 (σ .n) (x .answered) five (w .small)) (omega arith) un p;
+}
 
-pub acked-ok : (σ : Setup) (x : Console) (k : ℕ) → σ .n ≤ 5 → k < σ .n → isTelling (x .state) ≡ true → WaitsOk σ (x .state) x
-    → size (insert (x .answered) k) < tellSize σ → stateOk σ (acked x k) (x .state) ≡ true
+pub acked-ok : (σ : Setup) (x : Console) (k : ℕ) → σ .n ≤ 5 → k < σ .n → isTelling (x .state) ≡ true → WaitsOk σ (x .state) x → markOk x (x .state) ≡ true
+    → size (insert (x .answered) k) < tellSize σ → Passes σ (x .state) (acked x k)
 unfolding acked
-acked-ok σ x k five l p w few = telling-ok σ (acked x k) (x .state) p
-    (record { small = insert-small (σ .n) (x .answered) k five (w .small) l; fewer = omega (arith, few, tell-size-for σ (x .state) p); want = w .want })
+acked-ok σ x k five l p w m few = record {
+  state = telling-ok σ (acked x k) (x .state) p
+      (record { small = insert-small (σ .n) (x .answered) k five (w .small) l; fewer = omega (arith, few, tell-size-for σ (x .state) p); want = w .want });
+  mark = acked-mark x k (x .state) p m;
+}
 
 turn-wants : (s : State) (v : ℕ) → isAsking s ≡ true → wantsOk s v ≡ true → wantsOk (toTelling s) v ≡ true
 turn-wants Idle v e h = h
@@ -120,13 +168,16 @@ turn-wants (Telling w) v e h = h
 turn-wants Down v e h = h
 
 pub tells-ok : (σ : Setup) (c : ℕ) (x : Console) → Allowed σ → isAsking (x .state) ≡ true → wantsOk (x .state) (x .wanted) ≡ true
-    → stateOk σ (tells c x) (toTelling (x .state)) ≡ true
+    → Passes σ (toTelling (x .state)) (tells c x)
 unfolding tells
-tells-ok σ c x al p w = telling-ok σ (tells c x) (toTelling (x .state)) (turns (x .state) p .0)
-    (record { small = power-pos (σ .n) (al .n-5); fewer = omega (arith, size-empty, tell-pos al, tell-size-for σ (toTelling (x .state)) (turns (x .state) p .0)); want = turn-wants (x .state) (x .wanted) p w })
+tells-ok σ c x al p w = record {
+  state = telling-ok σ (tells c x) (toTelling (x .state)) (turns (x .state) p .0)
+      (record { small = power-pos (σ .n) (al .n-5); fewer = omega (arith, size-empty, tell-pos al, tell-size-for σ (toTelling (x .state)) (turns (x .state) p .0)); want = turn-wants (x .state) (x .wanted) p w });
+  mark = tells-mark c x (toTelling (x .state)) (turns (x .state) p .0);
+}
 
-pub console-state : (σ : Setup) {x y : Console} {s : State} → y ≡ x → x .state ≡ s → stateOk σ x s ≡ true → stateOk σ y (y .state) ≡ true
-console-state σ {x} {y} {s} e q h = rw e (subst (λ s. stateOk σ x s ≡ true) (sym q) h)
+pub console-state : (σ : Setup) {x y : Console} {s : State} → y ≡ x → x .state ≡ s → Passes σ s x → Passes σ (y .state) y
+console-state σ {x} {y} {s} e q h = rw e (subst (λ s. Passes σ s x) (sym q) h)
 
 -- ---- the kind of a tag and its value is kept, whatever it is
 

@@ -16,7 +16,6 @@ use Rattle.parts.specs.declared.Outcome.the-variants.{Discarded, Done, Finished
 use Rattle.parts.specs.declared.Setup.{Setup}
 use Rattle.parts.specs.declared.State.the-variants.{Idle}
 use Rattle.parts.specs.declared.Tag.{Tag}
-use Rattle.checks.specs.Clauses.{stateOk}
 use Rattle.board.specs.Boards.{consoleAt, frameAt, nodeAt, withConsole, withFrame}
 use Rattle.board.specs.declared.Answer.{Answer}
 use Rattle.board.specs.declared.Board.{Board}
@@ -24,7 +23,7 @@ use Rattle.guarantee.proofs.Tags.{Small, key}
 use Rattle.guarantee.proofs.States.{waiting-cases}
 use Rattle.guarantee.proofs.Shapes.{Shape, console-same, frame-beside, frame-same, shape-frame}
 use Rattle.guarantee.proofs.Rows.{Changed, Floor, Held, RowOk, ask-open, changed, tell-open}
-use Rattle.guarantee.proofs.Boards.{Beside, BoardOk, FrameHas, TagKind, beside-console, beside-frame, beside-trans, kept, same-floor, same-row, tags}
+use Rattle.guarantee.proofs.Boards.{Beside, BoardOk, FrameHas, Passes, TagKind, beside-console, beside-frame, beside-trans, kept, same-floor, same-row, tags}
 use Rattle.guarantee.proofs.Consoles.{Fair, WaitsOk, tag-small, waits}
 use Rattle.guarantee.proofs.Spent.{most, spent}
 
@@ -114,7 +113,7 @@ module _ {K : TagKind} {σ : Setup} {b : Board} {c k : ℕ} (d : Delivery K σ b
       go (inr p) = tell-open (row-of .telling p k (d .k-n)) e
 
   pub waiting : isWaiting (consoleAt b c .state) ≡ true → WaitsOk σ (consoleAt b c .state) (consoleAt b c)
-  waiting w = waits σ (consoleAt b c) (consoleAt b c .state) (d .ok .console-in c (d .c-m)) w
+  waiting w = waits σ (consoleAt b c) (consoleAt b c .state) (d .ok .console-in c (d .c-m) .state) w
 
   pub put-kind : {u : Tag} {v : ℕ} → frameAt b c k ≡ Put u v → K u v
   put-kind e = rw e at (d .ok .tagged .frame c k (d .c-m) (d .k-n))
@@ -144,7 +143,7 @@ module _ {K : TagKind} {σ : Setup} {b : Board} {c k : ℕ} (d : Delivery K σ b
     pub console-side : Beside σ c b (withConsole emptied c x)
     console-side = beside-trans (beside-frame b c k Nothing k-5) (beside-console emptied c x)
 
-    pub console-ok : K (x .best) (x .value) → stateOk σ x (x .state) ≡ true → RowOk σ x (frameAt emptied c) (tags b) → BoardOk K σ (withConsole emptied c x)
+    pub console-ok : K (x .best) (x .value) → Passes σ (x .state) x → RowOk σ x (frameAt emptied c) (tags b) → BoardOk K σ (withConsole emptied c x)
     unfolding frameAt nodeAt withConsole withFrame
     console-ok best good r = kept c b (withConsole emptied c x) (d .c-m) console-side (d .ok) (d .ok .tagged .node) (rw console-is best) (rw console-is good)
         (frames-with Nothing tt) (beyond-with Nothing) (same-row σ console-is (λ _ _. refl) r)

@@ -142,7 +142,7 @@ unfolding spent
 spent-most {K} {σ} b c h cm w = go (waiting-cases (consoleAt b c .state) w)
   where
     ws : WaitsOk σ (consoleAt b c .state) (consoleAt b c)
-    ws = waits σ (consoleAt b c) (consoleAt b c .state) (h .console-in c cm) w
+    ws = waits σ (consoleAt b c) (consoleAt b c .state) (h .console-in c cm .state) w
 
     go : (isAsking (consoleAt b c .state) ≡ true) ⊎ (isTelling (consoleAt b c .state) ≡ true) → spentAt σ b c ≤ most σ
     go (inl p) = omega (arith, earlier-asking σ (consoleAt b c .state) p, ask-size-for σ (consoleAt b c .state) p, phase-le (σ .n) (consoleAt b c) (frameAt b c) (h .shape .allowed .n-5) (ws .small), ws .fewer)

@@ -18,7 +18,7 @@ use Rattle.parts.specs.declared.Frame.{Frame}
 use Rattle.parts.specs.declared.Frame.the-variants.{Ack, Ask, Nothing, Put, Reply}
 use Rattle.parts.specs.declared.Setup.{Setup}
 use Rattle.parts.specs.declared.Tag.{Tag}
-use Rattle.changes.specs.Changes.{acked, awaits, hears}
+use Rattle.changes.specs.Changes.{acked, awaits, hears, takesIn}
 use Rattle.board.specs.Boards.{consoleAt, frameAt, nodeAt}
 use Rattle.board.specs.Deliver.{acknowledged, deliver, discards, heard, onAck, onAsk, onFrame, onPut, onReply, replied, toNode}
 use Rattle.board.specs.Questions.{has-console, has-next-ts, has-node, holds-frame, is-well-formed, node-is-up}
@@ -48,7 +48,7 @@ Accepts a = accepted (a .outcome) ≡ true
 frame-taken : (b : Board) (c k : ℕ) (f : Frame) → nodeAt b k .up ≡ true
     → ((u : Tag) (v : ℕ) → f ≡ Reply u v → isAsking (consoleAt b c .state) ≡ true → writes (consoleAt b c .state) ≡ true → hears (consoleAt b c) k u v .best .ts < maxTs)
     → Accepts (onFrame b c k f)
-unfolding onFrame onAsk onPut toNode onReply onAck replied acknowledged heard discards awaits hears acked
+unfolding onFrame onAsk onPut toNode onReply onAck replied acknowledged heard discards awaits hears takesIn acked
 frame-taken b c k Nothing up below = refl
 frame-taken b c k Ask up below = all-yes Accepts (node-is-up b k ∷ []) b (up also none) refl
 frame-taken b c k (Put u v) up below = all-yes Accepts (node-is-up b k ∷ []) b (up also none) refl
@@ -84,7 +84,7 @@ module _ {σ : Setup} (r : Run) (h : Inv σ r) (few : writesBegun r ≤ maxTs) w
       b = r .board
 
       ws : WaitsOk σ (consoleAt b c .state) (consoleAt b c)
-      ws = waits σ (consoleAt b c) (consoleAt b c .state) (h .ok .console-in c cm) w
+      ws = waits σ (consoleAt b c) (consoleAt b c .state) (h .ok .console-in c cm .state) w
 
       most-size : (isAsking (consoleAt b c .state) ≡ true) ⊎ (isTelling (consoleAt b c .state) ≡ true) → sizeFor σ (consoleAt b c .state) ≤ max (askSize σ) (tellSize σ)
       most-size (inl p) = omega (arith, ask-size-for σ (consoleAt b c .state) p)

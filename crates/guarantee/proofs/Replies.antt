@@ -3,28 +3,29 @@ use Prim.Native.Nat.{ℕ, _+_, _≤_, _<_}
 use mathlib.Core.Bool.{true, false}
 use mathlib.Core.Path.{refl, ap, _≡_}
 use native.Mathlib.Omega.{arith}
+use lib.Dec.{eqb}
 use Rattle.parts.specs.AnsweredSet.{insert, member, size}
 use Rattle.parts.specs.Parts.{isAsking, toTelling, writes}
 use Rattle.parts.specs.Sizes.{askSize}
+use Rattle.parts.specs.Tags.{compared}
 use Rattle.parts.specs.declared.Console.{Console}
 use Rattle.parts.specs.declared.Frame.{Frame}
 use Rattle.parts.specs.declared.Frame.the-variants.{Nothing, Put, Reply}
 use Rattle.parts.specs.declared.Outcome.the-variants.{Heard, Turned}
 use Rattle.parts.specs.declared.Setup.{Setup}
 use Rattle.parts.specs.declared.Tag.{Tag}
-use Rattle.checks.specs.Clauses.{stateOk}
 use Rattle.changes.specs.Changes.{hears, nextTag, tells}
-use Rattle.board.specs.Answers.{answer}
+use Rattle.board.specs.Answers.{answerTo}
 use Rattle.board.specs.Boards.{consoleAt, frameAt, nodeAt, withConsole, withFrame, withRow}
 use Rattle.board.specs.Deliver.{turned}
 use Rattle.board.specs.declared.Board.{Board}
 use Rattle.guarantee.proofs.Sets.{insert-small}
-use Rattle.guarantee.proofs.Tags.{Small}
+use Rattle.guarantee.proofs.Tags.{Small, key}
 use Rattle.guarantee.proofs.States.{ask-size-for, asking-waits, turns}
 use Rattle.guarantee.proofs.Shapes.{console-same, row-beyond, row-same, shape-row}
 use Rattle.guarantee.proofs.Rows.{RowOk, heard-all, heard-backed, heard-floor, heard-row, turned-floor, turned-row}
-use Rattle.guarantee.proofs.Boards.{Beside, BoardOk, TagKind, beside-console, beside-row, beside-trans, kept, same-floor, same-row, tags}
-use Rattle.guarantee.proofs.Consoles.{WaitsOk, console-state, hears-kind, hears-ok, tells-kind, tells-ok}
+use Rattle.guarantee.proofs.Boards.{Beside, BoardOk, Passes, TagKind, beside-console, beside-row, beside-trans, kept, same-floor, same-row, tags}
+use Rattle.guarantee.proofs.Consoles.{WaitsOk, asking-zero, console-state, hears-kind, hears-ok, tells-kind, tells-ok}
 use Rattle.guarantee.proofs.Spent.{earlier, earlier-asking, earlier-telling, phase-le, spent, spent-heard}
 use Rattle.guarantee.proofs.Effects.{Delivery, Effect, RowFloor, c-8, change, console-going, console-ok, console-side, console-ups, five, going, reply-kind, row-of, small-of, spentAt, turns-now, waiting}
 
@@ -49,6 +50,9 @@ module _ {K : TagKind} {σ : Setup} {b : Board} {c k : ℕ} (d : Delivery K σ b
   reply-small : Small u
   reply-small = small-of d u v (reply-kind d e)
 
+  none-yet : eqb (consoleAt b c .answered) 0 ≡ true → key (consoleAt b c .best) ≡ 0
+  none-yet = asking-zero σ (consoleAt b c) (consoleAt b c .state) p (d .ok .console-in c (d .c-m) .state)
+
   heard-kind : K (x₁ .best) (x₁ .value)
   heard-kind = hears-kind K (consoleAt b c) k u v (d .ok .tagged .best c (d .c-m)) (reply-kind d e)
 
@@ -58,11 +62,11 @@ module _ {K : TagKind} {σ : Setup} {b : Board} {c k : ℕ} (d : Delivery K σ b
 
   -- ---- heard
 
-  pub hear-effect : size (insert (consoleAt b c .answered) k) < askSize (b .setup) → Effect K σ c b (answer Heard (withConsole (withFrame b c k Nothing) c x₁))
+  pub hear-effect : size (insert (consoleAt b c .answered) k) < askSize (b .setup) → Effect K σ c b (answerTo (compared u (consoleAt b c .best)) Heard (withConsole (withFrame b c k Nothing) c x₁))
   unfolding hears
   hear-effect few = record {
-    ok = console-ok d x₁ heard-kind (hears-ok σ (consoleAt b c) k u v (five d) (d .k-n) p was-waiting (omega (arith, few, ap askSize (d .ok .shape .setup-is))))
-        (heard-row σ (five d) k (d .k-n) (consoleAt b c) u v (frameAt b c) row₁ (tags b) best-small reply-small (was-waiting .small) e (change d Nothing) p (row-of d));
+    ok = console-ok d x₁ heard-kind (hears-ok σ (consoleAt b c) k u v (five d) (d .k-n) p was-waiting un (omega (arith, few, ap askSize (d .ok .shape .setup-is))))
+        (heard-row σ (five d) k (d .k-n) (consoleAt b c) u v (frameAt b c) row₁ (tags b) best-small reply-small (was-waiting .small) e (change d Nothing) none-yet p (row-of d));
     beside = console-side d x₁;
     ups = console-ups d x₁;
     own = going refl (console-going d x₁ refl
@@ -100,7 +104,7 @@ module _ {K : TagKind} {σ : Setup} {b : Board} {c k : ℕ} (d : Delivery K σ b
   turn-beyond j l i = row-beyond b (d .ok .shape) c j (Put (x₂ .best) (x₂ .value)) l
 
   module _ (chosen : writes (consoleAt b c .state) ≡ true → K (nextTag c x₁) (consoleAt b c .wanted)) (all : askSize σ ≤ size (insert (consoleAt b c .answered) k)) where
-    turn-ok-state : stateOk σ x₂ (toTelling (consoleAt b c .state)) ≡ true
+    turn-ok-state : Passes σ (toTelling (consoleAt b c .state)) x₂
     unfolding hears
     turn-ok-state = tells-ok σ c x₁ (d .ok .shape .allowed) p (was-waiting .want)
 
@@ -138,7 +142,7 @@ module _ {K : TagKind} {σ : Setup} {b : Board} {c k : ℕ} (d : Delivery K σ b
     unfolding nodeAt withConsole withRow turned
     turn-ups j = refl
 
-    pub turn-effect : Effect K σ c b (answer Turned (turned b c x₁))
+    pub turn-effect : Effect K σ c b (answerTo (compared u (consoleAt b c .best)) Turned (turned b c x₁))
     turn-effect = record {
       ok = turn-ok;
       beside = turn-side;

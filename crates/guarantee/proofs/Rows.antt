@@ -1,36 +1,38 @@
 -- One console's row: the console, its frames and the nodes' tags. What holds of it (RowOk), what an open operation knows of
 -- an earlier tag (Floor), and that each delivery keeps both. No board stands here.
 use Prim.Native.Nat.{ℕ, _+_, _^_, _≤_, _<_}
-use mathlib.Core.Bool.{Bool, true, false, cond}
+use mathlib.Core.Bool.{Bool, true, false, cond, _&&_, _||_}
 use mathlib.Core.Logic.{_≢_}
 use mathlib.Core.Path.{refl, sym, ap, _≡_, _∙_}
 use native.Mathlib.Omega.{arith}
-use borrow.Author.Tests.{eqb-true, eqb-false}
+use borrow.Author.Tests.{eqb-true, eqb-false, ne-eqb}
 use lib.Dec.{eqb}
+use Rattle.parts.proofs.FiniteLaws.{and-left, and-right}
 use Rattle.parts.specs.AnsweredSet.{insert, member, size}
 use Rattle.parts.specs.Finite.{count, one}
 use Rattle.parts.specs.Parts.{isAsking, isNothing, isTelling, isWaiting, toTelling, writes}
 use Rattle.parts.specs.Sizes.{askSize, tellSize}
-use Rattle.parts.specs.Tags.{greater}
+use Rattle.parts.specs.Tags.{compared, greater, isSame}
 use Rattle.parts.specs.declared.Console.{Console}
 use Rattle.parts.specs.declared.Frame.{Frame}
 use Rattle.parts.specs.declared.Frame.the-variants.{Ack, Ask, Nothing, Put, Reply}
 use Rattle.parts.specs.declared.Setup.{Setup}
 use Rattle.parts.specs.declared.Tag.{Tag}
-use Rattle.changes.specs.Changes.{acked, hears, nextTag, tells}
+use Rattle.changes.specs.Changes.{acked, hears, nextTag, stillAlike, tells}
 use Rattle.guarantee.proofs.Quorums.{Meet, meet}
 use Rattle.guarantee.proofs.Sets.{insert-other, insert-same, insert-small, member-empty, power-pos, size-count, small-32}
-use Rattle.guarantee.proofs.Tags.{Small, greater-false, greater-true, key}
+use Rattle.guarantee.proofs.Tags.{Small, greater-false, greater-true, key, same-key}
 use Rattle.guarantee.proofs.Sizes.{Allowed, quorum}
-use Rattle.guarantee.proofs.States.{asking-waits, contra, not-both, telling-waits, turns}
+use Rattle.guarantee.proofs.States.{asking-waits, contra, not-both, split, telling-waits, turns}
 
 -- ---- what a waiting console's frames are, by whether its node has answered
 
--- asking: an ask, a reply with a tag no greater than its node's, or nothing once the node has answered
-pub data AskFrame (tag : Tag) : Bool → Frame → Type 0 where
-  unasked : AskFrame tag false Ask
-  replied-with : {t : Tag} {v : ℕ} → key t ≤ key tag → AskFrame tag false (Reply t v)
-  had : AskFrame tag true Nothing
+-- asking: an ask, a reply with a tag no greater than its node's, or nothing once the node has answered; and while the mark is
+-- on, the tag of a node that has answered is no lower than best
+pub data AskFrame (alike : Bool) (best tag : Tag) : Bool → Frame → Type 0 where
+  unasked : AskFrame alike best tag false Ask
+  replied-with : {t : Tag} {v : ℕ} → key t ≤ key tag → AskFrame alike best tag false (Reply t v)
+  had : (alike ≡ true → key best ≤ key tag) → AskFrame alike best tag true Nothing
 
 -- telling: the put of best, or an ack or nothing where the node's tag is no lower than best
 pub data TellFrame (best tag : Tag) : Bool → Frame → Type 0 where
@@ -44,11 +46,14 @@ tell-not-ask = elim [ ]
 pub tell-not-reply : {best tag : Tag} {a : Bool} {u : Tag} {v : ℕ} → TellFrame best tag a (Reply u v) → ⊥
 tell-not-reply = elim [ ]
 
-pub ask-not-ack : {tag : Tag} {a : Bool} → AskFrame tag a Ack → ⊥
+pub ask-not-ack : {alike : Bool} {best tag : Tag} {a : Bool} → AskFrame alike best tag a Ack → ⊥
 ask-not-ack = elim [ ]
 
-pub ask-not-put : {tag : Tag} {a : Bool} {u : Tag} {v : ℕ} → AskFrame tag a (Put u v) → ⊥
+pub ask-not-put : {alike : Bool} {best tag : Tag} {a : Bool} {u : Tag} {v : ℕ} → AskFrame alike best tag a (Put u v) → ⊥
 ask-not-put = elim [ ]
+
+replied-tag : {alike : Bool} {best tag : Tag} {a : Bool} {u : Tag} {v : ℕ} → AskFrame alike best tag a (Reply u v) → key u ≤ key tag
+replied-tag (replied-with h) = h
 
 took-tag : {best tag : Tag} {a : Bool} → TellFrame best tag a Ack → key best ≤ key tag
 took-tag (took h) = h
@@ -57,17 +62,17 @@ has-tag : {best tag : Tag} {f : Frame} → TellFrame best tag true f → key bes
 has-tag (has h) = h
 
 -- a frame in a waiting console's row is of a node that has not answered, and such a node has one
-pub ask-open : {tag : Tag} {a : Bool} {f : Frame} → AskFrame tag a f → isNothing f ≡ false → a ≡ false
+pub ask-open : {alike : Bool} {best tag : Tag} {a : Bool} {f : Frame} → AskFrame alike best tag a f → isNothing f ≡ false → a ≡ false
 ask-open unasked e = refl
 ask-open (replied-with h) e = refl
-ask-open had e = e
+ask-open (had h) e = e
 
 pub tell-open : {best tag : Tag} {a : Bool} {f : Frame} → TellFrame best tag a f → isNothing f ≡ false → a ≡ false
 tell-open untold e = refl
 tell-open (took h) e = refl
 tell-open (has h) e = e
 
-pub ask-full : {tag : Tag} {f : Frame} → AskFrame tag false f → isNothing f ≡ false
+pub ask-full : {alike : Bool} {best tag : Tag} {f : Frame} → AskFrame alike best tag false f → isNothing f ≡ false
 ask-full unasked = refl
 ask-full (replied-with h) = refl
 
@@ -76,8 +81,8 @@ tell-full untold = refl
 tell-full (took h) = refl
 
 -- an ask is delivered
-pub ask-replied : {tag : Tag} {a : Bool} (v : ℕ) → AskFrame tag a Ask → AskFrame tag a (Reply tag v)
-ask-replied {tag} v unasked = replied-with {t = tag} (omega arith)
+pub ask-replied : {alike : Bool} {best tag : Tag} {a : Bool} (v : ℕ) → AskFrame alike best tag a Ask → AskFrame alike best tag a (Reply tag v)
+ask-replied {tag = tag} v unasked = replied-with {t = tag} (omega arith)
 
 -- a put is delivered, to a node whose tag is no lower afterwards
 pub put-took : {best tag : Tag} {a : Bool} {u : Tag} {v : ℕ} → key u ≤ key tag → TellFrame best tag a (Put u v) → TellFrame best tag a Ack
@@ -98,7 +103,7 @@ not-reply n e = contra (ap isReply e) n
 
 pub record RowOk (σ : Setup) (x : Console) (fr : ℕ → Frame) (tg : ℕ → Tag) : Type 0 where
   pub small : x .answered < 2 ^ σ .n
-  pub asking : isAsking (x .state) ≡ true → (k : ℕ) → k < σ .n → AskFrame (tg k) (member (x .answered) k) (fr k)
+  pub asking : isAsking (x .state) ≡ true → (k : ℕ) → k < σ .n → AskFrame (x .alike) (x .best) (tg k) (member (x .answered) k) (fr k)
   pub telling : isTelling (x .state) ≡ true → (k : ℕ) → k < σ .n → TellFrame (x .best) (tg k) (member (x .answered) k) (fr k)
 
 -- a node that holds the tag, replies no less, and has made best no less if it has answered
@@ -139,10 +144,17 @@ changed {k} {f} {old} {new} w P h o j l = go (eqb j k) refl
 
 -- ---- the tags grow: all that another console's step does to a row
 
-ask-grow : {tag tag′ : Tag} {a : Bool} {f : Frame} → key tag ≤ key tag′ → AskFrame tag a f → AskFrame tag′ a f
+ask-grow : {alike : Bool} {best tag tag′ : Tag} {a : Bool} {f : Frame} → key tag ≤ key tag′ → AskFrame alike best tag a f → AskFrame alike best tag′ a f
 ask-grow g unasked = unasked
 ask-grow g (replied-with {t = t} h) = replied-with {t = t} (omega arith)
-ask-grow g had = had
+ask-grow g (had h) = had (λ e. omega (arith, h e))
+
+-- the mark and best change, and where the node has answered the mark was on, with the same best
+ask-older : {alike alike′ : Bool} {best best′ tag : Tag} {a : Bool} {f : Frame} → (a ≡ true → alike′ ≡ true → (alike ≡ true) × (key best′ ≡ key best))
+    → AskFrame alike best tag a f → AskFrame alike′ best′ tag a f
+ask-older w unasked = unasked
+ask-older w (replied-with {t = t} h) = replied-with {t = t} h
+ask-older w (had h) = had (λ on. omega (arith, w refl on .1, h (w refl on .0)))
 
 pub tell-grow : {best tag tag′ : Tag} {a : Bool} {f : Frame} → key tag ≤ key tag′ → TellFrame best tag a f → TellFrame best tag′ a f
 tell-grow g untold = untold
@@ -183,16 +195,20 @@ module _ (σ : Setup) (five : σ .n ≤ 5) (k : ℕ) (below : k < σ .n) (x : Co
             (λ j _ _ l i. g .each j l i) j (omega arith) l i;
       }
 
-  pub frame-row : (isAsking (x .state) ≡ true → AskFrame (tg k) (member (x .answered) k) f)
+  pub frame-row : (isAsking (x .state) ≡ true → AskFrame (x .alike) (x .best) (tg k) (member (x .answered) k) f)
       → (isTelling (x .state) ≡ true → TellFrame (x .best) (tg k) (member (x .answered) k) f)
       → RowOk σ x fr tg → RowOk σ x fr′ tg
   frame-row a b h = record {
     small = h .small;
-    asking = λ e j l. changed now (λ j f. j < σ .n → AskFrame (tg j) (member (x .answered) j) f) (λ l. a e) (λ j _ _ l. h .asking e j l) j (omega arith) l;
+    asking = λ e j l. changed now (λ j f. j < σ .n → AskFrame (x .alike) (x .best) (tg j) (member (x .answered) j) f) (λ l. a e) (λ j _ _ l. h .asking e j l) j (omega arith) l;
     telling = λ e j l. changed now (λ j f. j < σ .n → TellFrame (x .best) (tg j) (member (x .answered) j) f) (λ l. b e) (λ j _ _ l. h .telling e j l) j (omega arith) l;
   }
 
 -- ---- a reply is heard
+
+-- a set with a member is not empty
+some-member : (a k : ℕ) → k < 5 → member a k ≡ true → eqb a 0 ≡ false
+some-member a k l e = ne-eqb a 0 (λ z. contra (rw z at e) (member-empty k l))
 
 best-grows : (x : Console) (k : ℕ) (u : Tag) (v : ℕ) → Small (x .best) → Small u
     → (key (x .best) ≤ key (hears x k u v .best)) × (key u ≤ key (hears x k u v .best))
@@ -202,6 +218,29 @@ best-grows x k u v h i = go (greater u (x .best)) refl
     go : (z : Bool) → greater u (x .best) ≡ z → (key (x .best) ≤ key (cond z u (x .best))) × (key u ≤ key (cond z u (x .best)))
     go true e = omega (arith, greater-true u (x .best) i h e)
     go false e = omega (arith, greater-false u (x .best) i h e)
+
+-- the mark is on after a reply: then the reply has best's tag, and unless it is the first the mark was on before, with the same
+-- best. So while the mark is on every answer so far has carried best's tag
+pub record Alike (x : Console) (k : ℕ) (u : Tag) (v : ℕ) : Type 0 where
+  pub reply-has : key (hears x k u v .best) ≡ key u
+  pub older-have : eqb (x .answered) 0 ≡ false → (x .alike ≡ true) × (key (hears x k u v .best) ≡ key (x .best))
+
+pub all-alike : (x : Console) (k : ℕ) (u : Tag) (v : ℕ) → Small (x .best) → Small u → (eqb (x .answered) 0 ≡ true → key (x .best) ≡ 0)
+    → hears x k u v .alike ≡ true → Alike x k u v
+unfolding hears stillAlike
+all-alike x k u v h i zero on = go (eqb (x .answered) 0) refl on
+  where
+    first : eqb (x .answered) 0 ≡ true → key (cond (greater u (x .best)) u (x .best)) ≡ key u
+    first e = split (λ (t : Tag). key t ≡ key u) (greater u (x .best)) (λ _. refl) (λ f. omega (arith, greater-false u (x .best) i h f, zero e))
+
+    later : key u ≡ key (x .best) → (key (cond (greater u (x .best)) u (x .best)) ≡ key u) × (key (cond (greater u (x .best)) u (x .best)) ≡ key (x .best))
+    later e = split (λ (t : Tag). (key t ≡ key u) × (key t ≡ key (x .best))) (greater u (x .best)) (λ _. (refl, e)) (λ _. (sym e, refl))
+
+    go : (z : Bool) → eqb (x .answered) 0 ≡ z → (z || x .alike && isSame (compared u (x .best))) ≡ true → Alike x k u v
+    go true e o = record { reply-has = first e; older-have = λ n. absurd (contra e n) }
+    go false e o =
+        let same = later (same-key u (x .best) i h (and-right (x .alike) _ o)) in
+        record { reply-has = same .0; older-have = λ _. (and-left (x .alike) _ o, same .1) }
 
 module _ (σ : Setup) (five : σ .n ≤ 5) (k : ℕ) (below : k < σ .n) (x : Console) (u : Tag) (v : ℕ) (fr fr′ : ℕ → Frame) (tg : ℕ → Tag)
     (by-best : Small (x .best)) (by-reply : Small u)
@@ -233,15 +272,21 @@ module _ (σ : Setup) (five : σ .n ≤ 5) (k : ℕ) (below : k < σ .n) (x : Co
   unfolding hears
   heard-floor t p h = record { asks = λ e. heard-backed t (h .asks e); tells = λ e. absurd (not-both (x .state) p e) }
 
-  pub heard-row : isAsking (x .state) ≡ true → RowOk σ x fr tg → RowOk σ (hears x k u v) fr′ tg
+  pub heard-row : (eqb (x .answered) 0 ≡ true → key (x .best) ≡ 0) → isAsking (x .state) ≡ true → RowOk σ x fr tg → RowOk σ (hears x k u v) fr′ tg
   unfolding hears
-  heard-row p h = record {
+  heard-row zero p h = record {
     small = insert-small (σ .n) (x .answered) k five small below;
-    asking = λ e j l. changed now (λ j f. j < σ .n → AskFrame (tg j) (member (insert (x .answered) k) j) f)
-        (λ l. rw (insert-same (x .answered) k (small-32 (σ .n) (x .answered) five small) (omega arith)) had)
-        (λ j a b l. rw (bits j a b) (h .asking e j l)) j (omega arith) l;
+    asking = λ e j l. changed now (λ j f. j < σ .n → AskFrame (hears x k u v .alike) (hears x k u v .best) (tg j) (member (insert (x .answered) k) j) f)
+        (λ l. rw (insert-same (x .answered) k (small-32 (σ .n) (x .answered) five small) (omega arith))
+        (had (λ on. omega (arith, all-alike x k u v by-best by-reply zero on .reply-has, replied-tag (rw was at (h .asking e k l))))))
+        (λ j a b l. rw (bits j a b) (older j a (h .asking e j l))) j (omega arith) l;
     telling = λ e. absurd (not-both (x .state) p e);
   }
+    where
+      -- another node's frame stays, and where it has answered the mark, if it is on, was on
+      older : (j : ℕ) → j < 5 → AskFrame (x .alike) (x .best) (tg j) (member (x .answered) j) (fr j)
+          → AskFrame (hears x k u v .alike) (hears x k u v .best) (tg j) (member (x .answered) j) (fr j)
+      older j a = ask-older (λ m on. all-alike x k u v by-best by-reply zero on .older-have (some-member (x .answered) j a m))
 
 -- enough replies are heard: the asking group meets the group that backs the tag, so one of the replies told it
 pub heard-all : (σ : Setup) → Allowed σ → (x : Console) (fr : ℕ → Frame) (tg : ℕ → Tag) (t : ℕ) → x .answered < 2 ^ σ .n → askSize σ ≤ size (x .answered)

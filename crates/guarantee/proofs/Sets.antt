@@ -70,6 +70,19 @@ insert-some-test = refl
 pub insert-some : (a k : ℕ) → a < 32 → k < 5 → eqb (insert a k) 0 ≡ false
 insert-some a k h l = not-true (eqb (insert a k) 0) (every-at (λ k. not (eqb (insert a k) 0)) 5 (every-at (λ a. every 5 (λ k. not (eqb (insert a k) 0))) 32 insert-some-test a h) k l)
 
+first : ℕ → ℕ → Bool
+first a k = member a k || not (eqb (size (insert a k)) 1) || eqb a 0
+
+first-test : every 32 (λ a. every 5 (first a)) ≡ true
+unfolding every member insert size count first
+first-test = refl
+
+-- an answer that is the only one is the first
+pub insert-first : (a k : ℕ) → a < 32 → k < 5 → member a k ≡ false → eqb (size (insert a k)) 1 ≡ true → a ≡ 0
+unfolding first
+insert-first a k h l un e = eqb-true a 0 (or-right (member a k || not (eqb (size (insert a k)) 1)) _ (rw (un, e))
+    (every-at (first a) 5 (every-at (λ a. every 5 (first a)) 32 first-test a h) k l))
+
 power-test : every 6 (λ n. ltb 0 (2 ^ n) && leb (2 ^ n) 32) ≡ true
 unfolding every
 power-test = refl

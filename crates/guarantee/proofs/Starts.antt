@@ -13,7 +13,7 @@ use Rattle.parts.specs.declared.Frame.the-variants.{Ask, Nothing}
 use Rattle.parts.specs.declared.Kind.{Kind}
 use Rattle.parts.specs.declared.Setup.{Setup}
 use Rattle.parts.specs.declared.State.the-variants.{Asking, Down, Idle}
-use Rattle.checks.specs.Clauses.{isZero, restOk, stateOk, wantedOk}
+use Rattle.checks.specs.Clauses.{isZero, markOk, restOk, stateOk, wantedOk}
 use Rattle.changes.specs.Changes.{asks, rests, withUp}
 use Rattle.board.specs.Boards.{consoleAt, frameAt, freshBoard, nodeAt, withConsole, withNode, withRow}
 use Rattle.board.specs.Steps.{begun}
@@ -23,7 +23,7 @@ use Rattle.guarantee.proofs.Sizes.{Allowed}
 use Rattle.guarantee.proofs.States.{contra}
 use Rattle.guarantee.proofs.Shapes.{console-same, nodes-with, row-beyond, row-same, shape-row}
 use Rattle.guarantee.proofs.Rows.{Floor, Held, RowOk, begun-floor, grow-row, rest-row, unasked}
-use Rattle.guarantee.proofs.Boards.{Beside, BoardOk, TagKind, beside-console, beside-node, beside-row, beside-trans, kept, same-floor, same-row, tags}
+use Rattle.guarantee.proofs.Boards.{Beside, BoardOk, Passes, TagKind, beside-console, beside-node, beside-row, beside-trans, kept, same-floor, same-row, tags}
 use Rattle.guarantee.proofs.Consoles.{Fair, asks-ok, console-state, rests-ok}
 use Rattle.guarantee.proofs.Effects.{RowFloor}
 
@@ -80,7 +80,7 @@ module _ {K : TagKind} {σ : Setup} (fair : Fair K σ) (b : Board) (c : ℕ) (h 
     unfolding asks
     begin-best = fair .zero-in
 
-    begin-ok-state : wantedOk w v ≡ true → stateOk σ (consoleAt (begun b c w v) c) (consoleAt (begun b c w v) c .state) ≡ true
+    begin-ok-state : wantedOk w v ≡ true → Passes σ (consoleAt (begun b c w v) c .state) (consoleAt (begun b c w v) c)
     unfolding asks
     begin-ok-state good = console-state σ begin-console refl (asks-ok σ w v (consoleAt b c) (h .shape .allowed) good)
 
@@ -111,7 +111,7 @@ module _ {K : TagKind} {σ : Setup} (fair : Fair K σ) (b : Board) (c : ℕ) (h 
   unfolding rests
   down-best = fair .zero-in
 
-  down-ok-state : stateOk σ (consoleAt downed c) (consoleAt downed c .state) ≡ true
+  down-ok-state : Passes σ (consoleAt downed c .state) (consoleAt downed c)
   unfolding rests
   down-ok-state = console-state σ down-console refl (rests-ok σ (consoleAt b c) .1)
 
@@ -170,9 +170,9 @@ module _ (σ : Setup) where
   unfolding frameAt frameIn freshBoard
   fresh-frame c k = ap (λ (x : Cell). x .frame) (getD-replicate-same 40 (place c k) (cellOf Nothing))
 
-  fresh-state : stateOk σ idleConsole Idle ≡ true
-  unfolding stateOk restOk isZero
-  fresh-state = refl
+  fresh-state : Passes σ Idle idleConsole
+  unfolding stateOk restOk isZero markOk
+  fresh-state = record { state = refl; mark = refl }
 
   pub fresh-ok : {K : TagKind} → Fair K σ → Allowed σ → BoardOk K σ (freshBoard σ)
   unfolding freshBoard

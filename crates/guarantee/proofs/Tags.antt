@@ -6,7 +6,8 @@ use mathlib.Core.Path.{refl, sym, _≡_, _∙_}
 use native.Mathlib.Omega.{arith}
 use borrow.Author.Tests.{ltb-true, ltb-false, eqb-true, eqb-false, lt-ltb, le-ltb}
 use lib.Dec.{ltb, eqb}
-use Rattle.parts.specs.Tags.{greater}
+use Rattle.parts.proofs.TagsLaws.{same-neither}
+use Rattle.parts.specs.Tags.{compared, greater, isSame}
 use Rattle.parts.specs.declared.Tag.{Tag}
 
 abbrev pub key : Tag → ℕ
@@ -37,3 +38,7 @@ greater-true a b h i e = ltb-true (key b) (key a) (sym (greater-key a b h i) ∙
 
 pub greater-false : (a b : Tag) → Small a → Small b → greater a b ≡ false → key a ≤ key b
 greater-false a b h i e = ltb-false (key b) (key a) (sym (greater-key a b h i) ∙ e)
+
+-- tags that compare the same have one key
+pub same-key : (a b : Tag) → Small a → Small b → isSame (compared a b) ≡ true → key a ≡ key b
+same-key a b h i e = omega (arith, greater-false a b h i (same-neither a b e .0), greater-false b a i h (same-neither a b e .1))

@@ -30,7 +30,7 @@ module _ {K : TagKind} {σ : Setup} {b : Board} {c k : ℕ} (d : Delivery K σ b
   -- the frame alone changes: the node's tag is as before
   frame-effect : (f : Frame) (o : Outcome) → goesOn o ≡ true → FrameHas K f
       → ((u : Tag) (v : ℕ) → f ≡ Reply u v → key (tags b k) ≤ key u)
-      → (isAsking (consoleAt b c .state) ≡ true → AskFrame (tags b k) (member (consoleAt b c .answered) k) f)
+      → (isAsking (consoleAt b c .state) ≡ true → AskFrame (consoleAt b c .alike) (consoleAt b c .best) (tags b k) (member (consoleAt b c .answered) k) f)
       → (isTelling (consoleAt b c .state) ≡ true → TellFrame (consoleAt b c .best) (tags b k) (member (consoleAt b c .answered) k) f)
       → (isWaiting (consoleAt b c .state) ≡ true → (member (consoleAt b c .answered) k ≡ false) × (sent (frameAt b c k) ≡ 0) × (sent f ≡ 1))
       → Effect K σ c b (answer o (withFrame b c k f))
@@ -107,7 +107,7 @@ module _ {K : TagKind} {σ : Setup} {b : Board} {c k : ℕ} (d : Delivery K σ b
     put-telling : isTelling (consoleAt b c .state) ≡ true → TellFrame (consoleAt b c .best) (tags put-board k) (member (consoleAt b c .answered) k) Ack
     put-telling p = put-took put-high (tell-grow (put-side .grow k (d .k-n)) (rw e at (row-of d .telling p k (d .k-n))))
 
-    put-asking : isAsking (consoleAt b c .state) ≡ true → AskFrame (tags put-board k) (member (consoleAt b c .answered) k) Ack
+    put-asking : isAsking (consoleAt b c .state) ≡ true → AskFrame (consoleAt b c .alike) (consoleAt b c .best) (tags put-board k) (member (consoleAt b c .answered) k) Ack
     put-asking p = absurd (ask-not-put (rw e at (row-of d .asking p k (d .k-n))))
 
     put-nodes : (j : ℕ) → j < σ .n → K (nodeAt put-board j .tag) (nodeAt put-board j .value)
