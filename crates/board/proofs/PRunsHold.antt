@@ -1,5 +1,5 @@
 -- P1 to P10 as one theorem, by computation: what each run of the list shows is what it must show. Then the same of the runs of
--- node up.
+-- node up, and of those that say how replies compare.
 use mathlib.Core.List.{List, map}
 use mathlib.Core.Path.{_≡_, refl}
 use Rattle.parts.specs.Finite.{every, count}
@@ -17,11 +17,12 @@ use Rattle.board.specs.Deliver.{toNode, onAsk, onPut, discards, heard, t
 use Rattle.board.specs.Runs.{step}
 use Rattle.board.specs.PRuns.{PRun, Seen, seen, after, allSeen, shows, mustShow, pRuns}
 use Rattle.board.specs.UpRuns.{upRuns}
+use Rattle.board.specs.CompareRuns.{CompareRun, Told, allTold, says, mustSay, compareRuns}
 
 -- what runs show, with every definition opened
-opened : List PRun → List (List Seen)
-unfolding every count greater compared member insert size onlyBelow majority askSize tellSize nodeIn consoleIn frameIn place setFrame setRow nodesAllowed consolesAllowed setupOk isZero tagOk nodeOk nodesOk restOk wantedOk waitOk stateOk markOk consoleOk consolesOk frameOk cellOk rowOk cellsOk withUp taken rests asks awaits stillAlike hears takesIn nextTag tells acked nodeAt consoleAt frameAt withNode withConsole withFrame withRow freshBoard wellFormed guarded fresh begun begin nodeDown nodeUp consoleDown toNode onAsk onPut discards heard turned replied onReply acknowledged onAck onFrame deliver step seen after allSeen
-opened rs = map shows rs
+opened : List PRun → List CompareRun → List (List Seen) × List (List Told)
+unfolding every count greater compared member insert size onlyBelow majority askSize tellSize nodeIn consoleIn frameIn place setFrame setRow nodesAllowed consolesAllowed setupOk isZero tagOk nodeOk nodesOk restOk wantedOk waitOk stateOk markOk consoleOk consolesOk frameOk cellOk rowOk cellsOk withUp taken rests asks awaits stillAlike hears takesIn nextTag tells acked nodeAt consoleAt frameAt withNode withConsole withFrame withRow freshBoard wellFormed guarded fresh begun begin nodeDown nodeUp consoleDown toNode onAsk onPut discards heard turned replied onReply acknowledged onAck onFrame deliver step seen after allSeen allTold
+opened rs cs = (map shows rs, map says cs)
 
 pub p-runs-hold : map shows pRuns ≡ map mustShow pRuns
 unfolding opened pRuns
@@ -30,3 +31,7 @@ p-runs-hold = refl
 pub up-runs-hold : map shows upRuns ≡ map mustShow upRuns
 unfolding opened upRuns
 up-runs-hold = refl
+
+pub compare-runs-hold : map says compareRuns ≡ map mustSay compareRuns
+unfolding opened compareRuns
+compare-runs-hold = refl

@@ -9,3 +9,4 @@ pub mod InRange
 pub mod Runs
 pub mod PRuns
 pub mod UpRuns
+pub mod CompareRuns
