@@ -79,12 +79,4 @@ tells c x =
 
 -- Ack: 'the node joins the set'
 unfoldable pub acked : Console → ℕ → Console
-acked x k =
-    record {
-      state = x .state;
-      wanted = x .wanted;
-      answered = insert (x .answered) k;
-      best = x .best;
-      value = x .value;
-      alike = x .alike;
-    }
+acked x k = record { state = x .state; wanted = x .wanted; answered = insert (x .answered) k; best = x .best; value = x .value; alike = x .alike }
