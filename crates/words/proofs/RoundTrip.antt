@@ -128,11 +128,12 @@ module _ (w : List ℕ) (p a b c d : ℕ) where
     four-3 = word-same (set (set (set w p a) (p + 1) b) (p + 2) c) (p + 3) d
         (omega (arith, length-set (set (set w p a) (p + 1) b) (p + 2) c, length-set (set w p a) (p + 1) b, length-set w p a))
 
--- ---- nodes
+-- a word that says whether a mark is on
+flag-back : (u : Bool) → not (eqb (one u) 0) ≡ u
+flag-back true = refl
+flag-back false = refl
 
-up-back : (u : Bool) → not (eqb (one u) 0) ≡ u
-up-back true = refl
-up-back false = refl
+-- ---- nodes
 
 node-part : Part Node 4 (λ _. Unit {0}) nodeFrom putNode
 unfolding nodeFrom putNode
@@ -142,7 +143,7 @@ node-part = record {
     four-1 w p (one (x .up)) (x .tag .ts) (x .tag .console) (x .value) h,
     four-2 w p (one (x .up)) (x .tag .ts) (x .tag .console) (x .value) h,
     four-3 w p (one (x .up)) (x .tag .ts) (x .tag .console) (x .value) h,
-    up-back (x .up),
+    flag-back (x .up),
   );
   beside = λ w p x i o. four-beside w p (one (x .up)) (x .tag .ts) (x .tag .console) (x .value) i o;
   long = λ w p x. four-long w p (one (x .up)) (x .tag .ts) (x .tag .console) (x .value);
@@ -160,69 +161,94 @@ state-back (Telling Read) = refl
 state-back (Telling Write) = refl
 state-back Down = refl
 
--- two words more, after four
-module _ (w : List ℕ) (p a b c d e f : ℕ) where
+-- three words more, after four
+module _ (w : List ℕ) (p a b c d e f g : ℕ) where
   abbrev four : List ℕ
   four = putFour w p a b c d
 
+  abbrev five : List ℕ
+  five = set four (p + 4) e
+
   abbrev six : List ℕ
-  six = set (set four (p + 4) e) (p + 5) f
+  six = set five (p + 5) f
+
+  abbrev seven : List ℕ
+  seven = set six (p + 6) g
+
+  five-long : length five ≡ length w
+  five-long = length-set four (p + 4) e ∙ four-long w p a b c d
 
   six-long : length six ≡ length w
-  six-long = length-set (set four (p + 4) e) (p + 5) f ∙ length-set four (p + 4) e ∙ four-long w p a b c d
+  six-long = length-set five (p + 5) f ∙ five-long
 
-  after-four : (i : ℕ) → i ≢ p + 5 → i ≢ p + 4 → word six i ≡ word four i
-  after-four i h g = word-beside (set four (p + 4) e) (p + 5) f i h ∙ word-beside four (p + 4) e i g
+  seven-long : length seven ≡ length w
+  seven-long = length-set six (p + 6) g ∙ six-long
 
-  six-beside : (i : ℕ) → (i < p) ⊎ (p + 6 ≤ i) → word six i ≡ word w i
-  six-beside i (inl l) = after-four i (omega arith) (omega arith) ∙ four-beside w p a b c d i (inl l)
-  six-beside i (inr l) = after-four i (omega arith) (omega arith) ∙ four-beside w p a b c d i (inr (omega arith))
+  -- a word that none of the writes after the first k is at
+  after-five : (i : ℕ) → i ≢ p + 6 → i ≢ p + 5 → word seven i ≡ word five i
+  after-five i h k = word-beside six (p + 6) g i h ∙ word-beside five (p + 5) f i k
 
-  module _ (h : p + 6 ≤ length w) where
-    six-4 : word six (p + 4) ≡ e
-    six-4 = word-beside (set four (p + 4) e) (p + 5) f (p + 4) (omega arith) ∙ word-same four (p + 4) e (omega (arith, four-long w p a b c d))
+  after-four : (i : ℕ) → i ≢ p + 6 → i ≢ p + 5 → i ≢ p + 4 → word seven i ≡ word four i
+  after-four i h k l = after-five i h k ∙ word-beside four (p + 4) e i l
 
-    six-5 : word six (p + 5) ≡ f
-    six-5 = word-same (set four (p + 4) e) (p + 5) f (omega (arith, length-set four (p + 4) e, four-long w p a b c d))
+  seven-beside : (i : ℕ) → (i < p) ⊎ (p + 7 ≤ i) → word seven i ≡ word w i
+  seven-beside i (inl l) = after-four i (omega arith) (omega arith) (omega arith) ∙ four-beside w p a b c d i (inl l)
+  seven-beside i (inr l) = after-four i (omega arith) (omega arith) (omega arith) ∙ four-beside w p a b c d i (inr (omega arith))
+
+  module _ (h : p + 7 ≤ length w) where
+    seven-4 : word seven (p + 4) ≡ e
+    seven-4 = after-five (p + 4) (omega arith) (omega arith) ∙ word-same four (p + 4) e (omega (arith, four-long w p a b c d))
+
+    seven-5 : word seven (p + 5) ≡ f
+    seven-5 = word-beside six (p + 6) g (p + 5) (omega arith) ∙ word-same five (p + 5) f (omega (arith, five-long))
+
+    seven-6 : word seven (p + 6) ≡ g
+    seven-6 = word-same six (p + 6) g (omega (arith, six-long))
 
 module _ (w : List ℕ) (p : ℕ) (x : Console) where
   abbrev s₀ : ℕ
   s₀ = stateNumber (x .state)
 
-  console-word : (i : ℕ) → i ≢ p + 5 → i ≢ p + 4 → word (putConsole w p x) i ≡ word (putFour w p s₀ (x .wanted) (x .answered) (x .best .ts)) i
+  console-word : (i : ℕ) → i ≢ p + 6 → i ≢ p + 5 → i ≢ p + 4 → word (putConsole w p x) i ≡ word (putFour w p s₀ (x .wanted) (x .answered) (x .best .ts)) i
   unfolding putConsole
-  console-word i h g = after-four w p s₀ (x .wanted) (x .answered) (x .best .ts) (x .best .console) (x .value) i h g
+  console-word i h g l = after-four w p s₀ (x .wanted) (x .answered) (x .best .ts) (x .best .console) (x .value) (one (x .alike)) i h g l
 
-  put-last : p + 6 ≤ length w → (word (putConsole w p x) (p + 4) ≡ x .best .console) × (word (putConsole w p x) (p + 5) ≡ x .value)
+  put-last : p + 7 ≤ length w → (word (putConsole w p x) (p + 4) ≡ x .best .console) × (word (putConsole w p x) (p + 5) ≡ x .value) × (word (putConsole w p x) (p + 6) ≡ one (x .alike))
   unfolding putConsole
-  put-last h = (six-4 w p s₀ (x .wanted) (x .answered) (x .best .ts) (x .best .console) (x .value) h, six-5 w p s₀ (x .wanted) (x .answered) (x .best .ts) (x .best .console) (x .value) h)
+  put-last h = (
+    seven-4 w p s₀ (x .wanted) (x .answered) (x .best .ts) (x .best .console) (x .value) (one (x .alike)) h,
+    seven-5 w p s₀ (x .wanted) (x .answered) (x .best .ts) (x .best .console) (x .value) (one (x .alike)) h,
+    seven-6 w p s₀ (x .wanted) (x .answered) (x .best .ts) (x .best .console) (x .value) (one (x .alike)) h,
+  )
 
-  console-same : p + 6 ≤ length w → x .answered < 256 → consoleFrom (putConsole w p x) p ≡ x
+  console-same : p + 7 ≤ length w → x .answered < 256 → consoleFrom (putConsole w p x) p ≡ x
   unfolding consoleFrom
   console-same h small = rw (
-    console-word p (omega arith) (omega arith) ∙ four-0 w p s₀ (x .wanted) (x .answered) (x .best .ts) (omega arith),
-    console-word (p + 1) (omega arith) (omega arith) ∙ four-1 w p s₀ (x .wanted) (x .answered) (x .best .ts) (omega arith),
-    console-word (p + 2) (omega arith) (omega arith) ∙ four-2 w p s₀ (x .wanted) (x .answered) (x .best .ts) (omega arith),
-    console-word (p + 3) (omega arith) (omega arith) ∙ four-3 w p s₀ (x .wanted) (x .answered) (x .best .ts) (omega arith),
-    last-two .0,
-    last-two .1,
+    console-word p (omega arith) (omega arith) (omega arith) ∙ four-0 w p s₀ (x .wanted) (x .answered) (x .best .ts) (omega arith),
+    console-word (p + 1) (omega arith) (omega arith) (omega arith) ∙ four-1 w p s₀ (x .wanted) (x .answered) (x .best .ts) (omega arith),
+    console-word (p + 2) (omega arith) (omega arith) (omega arith) ∙ four-2 w p s₀ (x .wanted) (x .answered) (x .best .ts) (omega arith),
+    console-word (p + 3) (omega arith) (omega arith) (omega arith) ∙ four-3 w p s₀ (x .wanted) (x .answered) (x .best .ts) (omega arith),
+    last-three .0,
+    last-three .1,
+    last-three .2,
     state-back (x .state),
     answered-back,
+    flag-back (x .alike),
   )
     where
-      last-two : (word (putConsole w p x) (p + 4) ≡ x .best .console) × (word (putConsole w p x) (p + 5) ≡ x .value)
-      last-two = put-last h
+      last-three : (word (putConsole w p x) (p + 4) ≡ x .best .console) × (word (putConsole w p x) (p + 5) ≡ x .value) × (word (putConsole w p x) (p + 6) ≡ one (x .alike))
+      last-three = put-last h
 
       answered-back : x .answered % 256 ≡ x .answered
       answered-back = omega arith
 
-console-part : Part Console 6 Byte consoleFrom putConsole
+console-part : Part Console 7 Byte consoleFrom putConsole
 unfolding consoleFrom putConsole
 console-part = record {
   same = console-same;
-  beside = λ w p x i o. six-beside w p (stateNumber (x .state)) (x .wanted) (x .answered) (x .best .ts) (x .best .console) (x .value) i o;
-  long = λ w p x. six-long w p (stateNumber (x .state)) (x .wanted) (x .answered) (x .best .ts) (x .best .console) (x .value);
-  reads = λ w v p h. rw (h p (omega arith) (omega arith), h (p + 1) (omega arith) (omega arith), h (p + 2) (omega arith) (omega arith), h (p + 3) (omega arith) (omega arith), h (p + 4) (omega arith) (omega arith), h (p + 5) (omega arith) (omega arith));
+  beside = λ w p x i o. seven-beside w p (stateNumber (x .state)) (x .wanted) (x .answered) (x .best .ts) (x .best .console) (x .value) (one (x .alike)) i o;
+  long = λ w p x. seven-long w p (stateNumber (x .state)) (x .wanted) (x .answered) (x .best .ts) (x .best .console) (x .value) (one (x .alike));
+  reads = λ w v p h. rw (h p (omega arith) (omega arith), h (p + 1) (omega arith) (omega arith), h (p + 2) (omega arith) (omega arith), h (p + 3) (omega arith) (omega arith), h (p + 4) (omega arith) (omega arith), h (p + 5) (omega arith) (omega arith), h (p + 6) (omega arith) (omega arith));
 }
 
 -- ---- cells
@@ -259,7 +285,7 @@ pub consoles-long : (xs : List Console) (n : ℕ) (w : List ℕ) → length (put
 consoles-long xs n w = all-long console-part 22 consolePlace (λ k. omega arith) (λ k n l. omega arith) idleConsole xs n w
 
 pub cells-long : (xs : List Cell) (n : ℕ) (w : List ℕ) → length (putCells xs n w) ≡ length w
-cells-long xs n w = all-long cell-part 70 cellPlace (λ k. omega arith) (λ k n l. omega arith) (cellOf Nothing) xs n w
+cells-long xs n w = all-long cell-part 78 cellPlace (λ k. omega arith) (λ k n l. omega arith) (cellOf Nothing) xs n w
 
 -- ---- the board
 
@@ -270,7 +296,7 @@ pub record Typed (b : Board) : Type 0 where
   pub cells-40 : length (b .cells) ≡ 40
   pub bytes : Bytes (b .consoles) 8
 
-module _ (w : List ℕ) (b : Board) (h : 230 ≤ length w) (t : Typed b) where
+module _ (w : List ℕ) (b : Board) (h : 238 ≤ length w) (t : Typed b) where
   abbrev w₁ : List ℕ
   w₁ = set (set w 0 (b .setup .n)) 1 (b .setup .m)
 
@@ -293,8 +319,8 @@ module _ (w : List ℕ) (b : Board) (h : 230 ≤ length w) (t : Typed b) where
   long-3 = consoles-long (b .consoles) 8 w₂ ∙ long-2
 
   -- the cells come after the rest, the consoles after the nodes, the nodes after n and m
-  before-cells : (i : ℕ) → i < 70 → word w₄ i ≡ word w₃ i
-  before-cells i l = all-beside cell-part 70 cellPlace (λ k. omega arith) (λ k n l. omega arith) (cellOf Nothing) (b .cells) 40 w₃ i (inl l)
+  before-cells : (i : ℕ) → i < 78 → word w₄ i ≡ word w₃ i
+  before-cells i l = all-beside cell-part 78 cellPlace (λ k. omega arith) (λ k n l. omega arith) (cellOf Nothing) (b .cells) 40 w₃ i (inl l)
 
   before-consoles : (i : ℕ) → i < 22 → word w₄ i ≡ word w₂ i
   before-consoles i l = before-cells i (omega arith) ∙ all-beside console-part 22 consolePlace (λ k. omega arith) (λ k n l. omega arith) idleConsole (b .consoles) 8 w₂ i (inl l)
@@ -320,7 +346,7 @@ module _ (w : List ℕ) (b : Board) (h : 230 ≤ length w) (t : Typed b) where
 
   cells-back : allFrom cellFrom cellPlace (replicate 40 (cellOf Nothing)) 40 w₄ ≡ b .cells
   cells-back = from-all cellFrom cellPlace (cellOf Nothing) (replicate 40 (cellOf Nothing)) w₄ (b .cells) 40 refl (t .cells-40)
-      (λ k l. all-same cell-part 70 cellPlace (λ k. omega arith) (λ k n l. omega arith) (cellOf Nothing) (b .cells) 40 w₃ (omega (arith, long-3)) (λ k l. tt) k l)
+      (λ k l. all-same cell-part 78 cellPlace (λ k. omega arith) (λ k n l. omega arith) (cellOf Nothing) (b .cells) 40 w₃ (omega (arith, long-3)) (λ k l. tt) k l)
 
   -- encoding and then decoding gives the board
   pub round-trip : decoded (encoded w b) ≡ b
@@ -328,5 +354,5 @@ module _ (w : List ℕ) (b : Board) (h : 230 ≤ length w) (t : Typed b) where
   round-trip = rw (n-back, m-back, nodes-back, consoles-back, cells-back)
 
 -- so words that a board was written into are that board's
-pub written : (w w' : List ℕ) (b : Board) → 230 ≤ length w → Typed b → w' ≡ encoded w b → (w' ≡ encoded w b) × (decoded w' ≡ b)
+pub written : (w w' : List ℕ) (b : Board) → 238 ≤ length w → Typed b → w' ≡ encoded w b → (w' ≡ encoded w b) × (decoded w' ≡ b)
 written w w' b h t e = (e, ap decoded e ∙ round-trip w b h t)

@@ -1,4 +1,4 @@
--- A board as 230 words of 32 bits: n and m, then four words for a node, six for a console, four for a cell. Any words
+-- A board as 238 words of 32 bits: n and m, then four words for a node, seven for a console, four for a cell. Any words
 -- whatever are some board's (decoded).
 use Prim.Native.Nat.{ℕ, zero, suc, _+_, _*_, _%_, _<_}
 use mathlib.Core.Bool.{not}
@@ -22,7 +22,7 @@ use Rattle.board.specs.declared.Board.{Board}
 
 -- the words of a board
 abbrev pub boardWords : ℕ
-boardWords = 230
+boardWords = 238
 
 -- the word at place i
 abbrev pub word : List ℕ → ℕ → ℕ
@@ -34,10 +34,10 @@ abbrev pub nodePlace : ℕ → ℕ
 nodePlace k = 2 + k * 4
 
 abbrev pub consolePlace : ℕ → ℕ
-consolePlace c = 22 + c * 6
+consolePlace c = 22 + c * 7
 
 abbrev pub cellPlace : ℕ → ℕ
-cellPlace i = 70 + i * 4
+cellPlace i = 78 + i * 4
 
 -- ---- reading
 
@@ -58,9 +58,10 @@ stateOf (suc (suc (suc zero))) = Telling Read
 stateOf (suc (suc (suc (suc zero)))) = Telling Write
 stateOf (suc (suc (suc (suc (suc s))))) = Down
 
--- state, wanted, answered, best ts, best console, value; the answered set is the lowest eight bits of its word
+-- state, wanted, answered, best ts, best console, value, alike; the answered set is the lowest eight bits of its word, and the
+-- mark is off only at 0
 unfoldable pub consoleFrom : List ℕ → ℕ → Console
-consoleFrom w p = record { state = stateOf (word w p); wanted = word w (p + 1); answered = word w (p + 2) % 256; best = tagOf (word w (p + 3)) (word w (p + 4)); value = word w (p + 5) }
+consoleFrom w p = record { state = stateOf (word w p); wanted = word w (p + 1); answered = word w (p + 2) % 256; best = tagOf (word w (p + 3)) (word w (p + 4)); value = word w (p + 5); alike = not (eqb (word w (p + 6)) 0) }
 
 -- a frame by its number; from 4 on it is an ack
 unfoldable pub frameOf : ℕ → Tag → ℕ → Frame
@@ -108,7 +109,7 @@ stateNumber (Telling w) = 3 + kindNumber w
 stateNumber Down = 5
 
 unfoldable pub putConsole : List ℕ → ℕ → Console → List ℕ
-putConsole w p x = set (set (putFour w p (stateNumber (x .state)) (x .wanted) (x .answered) (x .best .ts)) (p + 4) (x .best .console)) (p + 5) (x .value)
+putConsole w p x = set (set (set (putFour w p (stateNumber (x .state)) (x .wanted) (x .answered) (x .best .ts)) (p + 4) (x .best .console)) (p + 5) (x .value)) (p + 6) (one (x .alike))
 
 unfoldable pub frameNumber : Frame → ℕ
 frameNumber Nothing = 0
@@ -148,7 +149,7 @@ putConsoles = putAll putConsole consolePlace idleConsole
 abbrev pub putCells : List Cell → ℕ → List ℕ → List ℕ
 putCells = putAll putCell cellPlace (cellOf Nothing)
 
--- the words with the board in their first 230
+-- the words with the board in their first 238
 unfoldable pub encoded : List ℕ → Board → List ℕ
 encoded w b = putCells (b .cells) 40 (putConsoles (b .consoles) 8 (putNodes (b .nodes) 5 (set (set w 0 (b .setup .n)) 1 (b .setup .m))))
 

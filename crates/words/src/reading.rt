@@ -55,7 +55,7 @@ fn state_of(s: u32) -> State
 }
 
 fn console_from(w: &[u32], p: usize) -> Console
-    requires { ⌜ p + 6 ≤ length (now w) ⌝ }
+    requires { ⌜ p + 7 ≤ length (now w) ⌝ }
     ensures { λ r. ⌜ r ≡ consoleFrom (now (w .entry)) p ⌝ }
 {
     let s = state_of(w[p]);
@@ -69,6 +69,7 @@ fn console_from(w: &[u32], p: usize) -> Console
         answered: (w[p + 2] % 256) as u8,
         best: t,
         value: w[p + 5],
+        alike: w[p + 6] != 0,
     }
 }
 
@@ -127,6 +128,7 @@ fn consoles_from(w: &[u32]) -> [Console; CONSOLES]
         answered: 0,
         best: zero,
         value: 0,
+        alike: false,
     };
     let mut consoles = [x; CONSOLES];
     let mut c: usize = 0;
@@ -171,7 +173,7 @@ fn board_from(w: &[u32]) -> Board
     }
 }
 
-// The board in the first 230 words. Fewer words are read as if all were 0; the contract leaves that open.
+// The board in the first 238 words. Fewer words are read as if all were 0; the contract leaves that open.
 pub fn decode(w: &[u32]) -> Board
     ensures { λ r. ⌜ (boardWords ≤ length (now (w .entry)) → r ≡ decoded (now (w .entry))) ⌝ }
 {

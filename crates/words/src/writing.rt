@@ -93,7 +93,7 @@ fn telling_number(w: Kind) -> u32
 }
 
 fn put_console(w: &mut [u32], p: usize, x: Console)
-    requires { ⌜ p + 6 ≤ length (now w) ⌝ }
+    requires { ⌜ p + 7 ≤ length (now w) ⌝ }
     ensures { λ r. ⌜ (now (w .exit) ≡ putConsole (now (w .entry)) p x) × Byte x ⌝ }
 {
     let s = x.state;
@@ -107,6 +107,7 @@ fn put_console(w: &mut [u32], p: usize, x: Console)
     );
     w[p + 4] = x.best.console;
     w[p + 5] = x.value;
+    w[p + 6] = flag(x.alike);
 }
 
 fn put_consoles(w: &mut [u32], consoles: [Console; CONSOLES])
@@ -193,7 +194,7 @@ fn put_board(w: &mut [u32], b: Board)
     put_cells(w, cells);
 }
 
-// Writes the board into the first 230 words, from which it can be read back. Shorter words are left as they are.
+// Writes the board into the first 238 words, from which it can be read back. Shorter words are left as they are.
 pub fn encode(w: &mut [u32], b: Board)
     ensures { λ r. ⌜ (boardWords ≤ length (now (w .entry)) → (now (w .exit) ≡ encoded (now (w .entry)) b) × (decoded (now (w .exit)) ≡ b)) × (length (now (w .entry)) < boardWords → now (w .exit) ≡ now (w .entry)) ⌝ }
 {

@@ -61,9 +61,18 @@ mul-t19 c = search needs
 shared-slice-read-t21 : tie.Need-shared-slice-read-t21
 shared-slice-read-t21 c = search needs
 
+add-t22 : tie.Need-add-t22
+add-t22 c = search needs
+
+mul-t23 : tie.Need-mul-t23
+mul-t23 c = search needs
+
+shared-slice-read-t25 : tie.Need-shared-slice-read-t25
+shared-slice-read-t25 c = search needs
+
 returns : tie.Need-returns
 unfolding consoleFrom
-returns c = rw (c .before .before .before .before .before .state-of .ensures)
+returns c = rw (c .before .before .before .before .before .before .state-of .ensures)
 
 pub console-from-spec : {M : Type 1} → statement M
 console-from-spec =
@@ -88,4 +97,7 @@ console-from-spec =
     add-t18
     mul-t19
     shared-slice-read-t21
+    add-t22
+    mul-t23
+    shared-slice-read-t25
     returns)

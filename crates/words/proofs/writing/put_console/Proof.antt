@@ -1,4 +1,4 @@
--- The six words are the definition's.
+-- The seven words are the definition's.
 use mathlib.Core.Path.{ap}
 use native.Mathlib.Omega.{arith}
 use borrow.Author.Needs.{needs}
@@ -34,12 +34,24 @@ mul-w-2 c = search needs
 slice-write-w-2 : tie.Need-slice-write-w-2
 slice-write-w-2 c = simp length-set (omega (arith, simp length-set at (ap length (c .before .before .put-four-at .ensures))))
 
+flag-requires : tie.Need-flag-requires
+flag-requires c κs = search needs
+
+add-w-3 : tie.Need-add-w-3
+add-w-3 c = search needs
+
+mul-w-3 : tie.Need-mul-w-3
+mul-w-3 c = search needs
+
+slice-write-w-3 : tie.Need-slice-write-w-3
+slice-write-w-3 c = simp length-set (omega (arith, simp length-set at (ap length (c .before .before .before .put-four-at .ensures))))
+
 same-length : tie.Need-same-length
 same-length c = search needs
 
 returns : tie.Need-returns
 unfolding putConsole
-returns c = (rw (c .before .before .put-four-at .ensures, c .before .before .before .before .state-number .ensures), search needs)
+returns c = (rw (c .before .before .before .put-four-at .ensures, c .before .before .before .before .before .state-number .ensures, c .flag .ensures), search needs)
 
 pub put-console-spec : {M : Type 1} → statement M
 put-console-spec =
@@ -54,5 +66,9 @@ put-console-spec =
     add-w-2
     mul-w-2
     slice-write-w-2
+    flag-requires
+    add-w-3
+    mul-w-3
+    slice-write-w-3
     same-length
     returns)
