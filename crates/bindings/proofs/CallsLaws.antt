@@ -13,39 +13,39 @@ use Rattle.bindings.specs.Calls.{said, kept, shortBy, code, Called}
 
 -- ---- lengths
 
-pub short-board : (w s : ℕ) → w < 230 → 1 ≡ shortBy w s
+pub short-board : (w s : ℕ) → w < 238 → 1 ≡ shortBy w s
 unfolding shortBy
-short-board w s l = go (leb 230 w) refl
+short-board w s l = go (leb 238 w) refl
   where
-    go : (t : Bool) → leb 230 w ≡ t → 1 ≡ shortBy w s
-    go true e = absurd (omega (arith, leb-true 230 w e))
+    go : (t : Bool) → leb 238 w ≡ t → 1 ≡ shortBy w s
+    go true e = absurd (omega (arith, leb-true 238 w e))
     go false e = rw e
 
-pub short-answer : (w s : ℕ) → 230 ≤ w → s < 5 → 2 ≡ shortBy w s
+pub short-answer : (w s : ℕ) → 238 ≤ w → s < 6 → 2 ≡ shortBy w s
 unfolding shortBy
-short-answer w s g l = go (leb 5 s) refl
+short-answer w s g l = go (leb 6 s) refl
   where
-    go : (t : Bool) → leb 5 s ≡ t → 2 ≡ shortBy w s
-    go true e = absurd (omega (arith, leb-true 5 s e))
-    go false e = rw (le-leb 230 w g, e)
+    go : (t : Bool) → leb 6 s ≡ t → 2 ≡ shortBy w s
+    go true e = absurd (omega (arith, leb-true 6 s e))
+    go false e = rw (le-leb 238 w g, e)
 
-pub long : (w s : ℕ) → 230 ≤ w → 5 ≤ s → 0 ≡ shortBy w s
+pub long : (w s : ℕ) → 238 ≤ w → 6 ≤ s → 0 ≡ shortBy w s
 unfolding shortBy
-long w s g h = rw (le-leb 230 w g, le-leb 5 s h)
+long w s g h = rw (le-leb 238 w g, le-leb 6 s h)
 
-pub long-board : (w s : ℕ) → shortBy w s ≡ 0 → 230 ≤ w
-long-board w s e = go (leb 230 w) refl e
+pub long-board : (w s : ℕ) → shortBy w s ≡ 0 → 238 ≤ w
+long-board w s e = go (leb 238 w) refl e
   where
-    go : (t : Bool) → leb 230 w ≡ t → shortBy w s ≡ 0 → 230 ≤ w
-    go true f e = leb-true 230 w f
-    go false f e = absurd (omega (arith, short-board w s (leb-false 230 w f), e))
+    go : (t : Bool) → leb 238 w ≡ t → shortBy w s ≡ 0 → 238 ≤ w
+    go true f e = leb-true 238 w f
+    go false f e = absurd (omega (arith, short-board w s (leb-false 238 w f), e))
 
-pub long-answer : (w s : ℕ) → shortBy w s ≡ 0 → 5 ≤ s
-long-answer w s e = go (leb 5 s) refl e
+pub long-answer : (w s : ℕ) → shortBy w s ≡ 0 → 6 ≤ s
+long-answer w s e = go (leb 6 s) refl e
   where
-    go : (t : Bool) → leb 5 s ≡ t → shortBy w s ≡ 0 → 5 ≤ s
-    go true f e = leb-true 5 s f
-    go false f e = absurd (omega (arith, short-answer w s (long-board w s e) (leb-false 5 s f), e))
+    go : (t : Bool) → leb 6 s ≡ t → shortBy w s ≡ 0 → 6 ≤ s
+    go true f e = leb-true 6 s f
+    go false f e = absurd (omega (arith, short-answer w s (long-board w s e) (leb-false 6 s f), e))
 
 -- ---- writing back
 

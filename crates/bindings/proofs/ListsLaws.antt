@@ -18,43 +18,43 @@ use Rattle.bindings.specs.Lists.{stepAt, goOn, after, answers, keptAfter
 -- ---- lengths
 
 module _ (w q s : ℕ) where
-  pub list-short-board : w < 230 → 1 ≡ listShortBy w q s
+  pub list-short-board : w < 238 → 1 ≡ listShortBy w q s
   unfolding listShortBy
-  list-short-board l = go (leb 230 w) refl
+  list-short-board l = go (leb 238 w) refl
     where
-      go : (t : Bool) → leb 230 w ≡ t → 1 ≡ listShortBy w q s
-      go true e = absurd (omega (arith, leb-true 230 w e))
+      go : (t : Bool) → leb 238 w ≡ t → 1 ≡ listShortBy w q s
+      go true e = absurd (omega (arith, leb-true 238 w e))
       go false e = rw e
 
-  pub list-short-answers : 230 ≤ w → s / 5 < q / 3 → 2 ≡ listShortBy w q s
+  pub list-short-answers : 238 ≤ w → s / 6 < q / 3 → 2 ≡ listShortBy w q s
   unfolding listShortBy
-  list-short-answers g l = go (leb (q / 3) (s / 5)) refl
+  list-short-answers g l = go (leb (q / 3) (s / 6)) refl
     where
-      go : (t : Bool) → leb (q / 3) (s / 5) ≡ t → 2 ≡ listShortBy w q s
-      go true e = absurd (omega (arith, leb-true (q / 3) (s / 5) e))
-      go false e = rw (le-leb 230 w g, e)
+      go : (t : Bool) → leb (q / 3) (s / 6) ≡ t → 2 ≡ listShortBy w q s
+      go true e = absurd (omega (arith, leb-true (q / 3) (s / 6) e))
+      go false e = rw (le-leb 238 w g, e)
 
-  pub list-uneven : 230 ≤ w → q / 3 ≤ s / 5 → (q % 3 ≡ 0 → ⊥) → 3 ≡ listShortBy w q s
+  pub list-uneven : 238 ≤ w → q / 3 ≤ s / 6 → (q % 3 ≡ 0 → ⊥) → 3 ≡ listShortBy w q s
   unfolding listShortBy
-  list-uneven g h n = rw (le-leb 230 w g, le-leb (q / 3) (s / 5) h, ne-eqb (q % 3) 0 n)
+  list-uneven g h n = rw (le-leb 238 w g, le-leb (q / 3) (s / 6) h, ne-eqb (q % 3) 0 n)
 
-  pub list-long : 230 ≤ w → q / 3 ≤ s / 5 → q % 3 ≡ 0 → 0 ≡ listShortBy w q s
+  pub list-long : 238 ≤ w → q / 3 ≤ s / 6 → q % 3 ≡ 0 → 0 ≡ listShortBy w q s
   unfolding listShortBy
-  list-long g h e = rw (le-leb 230 w g, le-leb (q / 3) (s / 5) h, eq-eqb (q % 3) 0 e)
+  list-long g h e = rw (le-leb 238 w g, le-leb (q / 3) (s / 6) h, eq-eqb (q % 3) 0 e)
 
-  pub list-long-board : listShortBy w q s ≡ 0 → 230 ≤ w
-  list-long-board e = go (leb 230 w) refl
+  pub list-long-board : listShortBy w q s ≡ 0 → 238 ≤ w
+  list-long-board e = go (leb 238 w) refl
     where
-      go : (t : Bool) → leb 230 w ≡ t → 230 ≤ w
-      go true f = leb-true 230 w f
-      go false f = absurd (omega (arith, list-short-board (leb-false 230 w f), e))
+      go : (t : Bool) → leb 238 w ≡ t → 238 ≤ w
+      go true f = leb-true 238 w f
+      go false f = absurd (omega (arith, list-short-board (leb-false 238 w f), e))
 
-  pub list-long-answers : listShortBy w q s ≡ 0 → stepsIn q * 5 ≤ s
-  list-long-answers e = go (leb (q / 3) (s / 5)) refl
+  pub list-long-answers : listShortBy w q s ≡ 0 → stepsIn q * 6 ≤ s
+  list-long-answers e = go (leb (q / 3) (s / 6)) refl
     where
-      go : (t : Bool) → leb (q / 3) (s / 5) ≡ t → stepsIn q * 5 ≤ s
-      go true f = omega (arith, leb-true (q / 3) (s / 5) f)
-      go false f = absurd (omega (arith, list-short-answers (list-long-board e) (leb-false (q / 3) (s / 5) f), e))
+      go : (t : Bool) → leb (q / 3) (s / 6) ≡ t → stepsIn q * 6 ≤ s
+      go true f = omega (arith, leb-true (q / 3) (s / 6) f)
+      go false f = absurd (omega (arith, list-short-answers (list-long-board e) (leb-false (q / 3) (s / 6) f), e))
 
 -- ---- one step more
 
@@ -70,7 +70,7 @@ pub after-more : (q : List ℕ) (b : Board) (k : ℕ) → goOn (after q b k) (st
 unfolding after
 after-more q b k = rw add-one
 
-pub answers-more : (q : List ℕ) (b : Board) (s : List ℕ) (k : ℕ) → said (answers q b s k) (k * 5) (stepAt q k (after q b k .board)) ≡ answers q b s (k + 1)
+pub answers-more : (q : List ℕ) (b : Board) (s : List ℕ) (k : ℕ) → said (answers q b s k) (k * 6) (stepAt q k (after q b k .board)) ≡ answers q b s (k + 1)
 unfolding answers
 answers-more q b s k = rw add-one
 
@@ -81,7 +81,7 @@ said-long s p a = simp length-set
 pub answers-long : (q : List ℕ) (b : Board) (s : List ℕ) (k : ℕ) → length (answers q b s k) ≡ length s
 unfolding answers
 answers-long q b s zero = refl
-answers-long q b s (suc k) = said-long (answers q b s k) (k * 5) (stepAt q k (after q b k .board)) ∙ answers-long q b s k
+answers-long q b s (suc k) = said-long (answers q b s k) (k * 6) (stepAt q k (after q b k .board)) ∙ answers-long q b s k
 
 -- ---- writing back
 

@@ -1,22 +1,22 @@
--- Steps on a board that stands in lent words: one step a call (Called). The answer goes into five words lent beside it.
+-- Steps on a board that stands in lent words: one step a call (Called). The answer goes into six words lent beside it.
 use Prim.Native.Nat.{ℕ, _+_}
 use mathlib.Core.Bool.{cond}
 use mathlib.Core.List.{List}
 use mathlib.Core.Path.{_≡_}
 use lib.Dec.{eqb, leb}
 use lib.ListN.{length, set}
-use Rattle.parts.specs.Outcomes.{outcomeNumber, outcomeTag, outcomeValue}
+use Rattle.parts.specs.Outcomes.{outcomeNumber, outcomeTag, outcomeValue, comparedNumber}
 use Rattle.board.specs.declared.Answer.{Answer}
 use Rattle.board.specs.declared.Board.{Board}
 use Rattle.words.specs.Words.{boardWords, decoded, encoded, putFour}
 
 -- the words of an answer
 abbrev pub answerWords : ℕ
-answerWords = 5
+answerWords = 6
 
--- outcome, refusal, tag and value, from p on
+-- outcome, refusal, tag, value and comparison, from p on
 unfoldable pub said : List ℕ → ℕ → Answer → List ℕ
-said s p a = set (putFour s p (outcomeNumber (a .outcome)) (a .refusal) (outcomeTag (a .outcome) .ts) (outcomeTag (a .outcome) .console)) (p + 4) (outcomeValue (a .outcome))
+said s p a = set (set (putFour s p (outcomeNumber (a .outcome)) (a .refusal) (outcomeTag (a .outcome) .ts) (outcomeTag (a .outcome) .console)) (p + 4) (outcomeValue (a .outcome))) (p + 5) (comparedNumber (a .compared))
 
 -- on a refusal nothing of the lent board is written
 unfoldable pub kept : List ℕ → Answer → List ℕ

@@ -17,9 +17,9 @@ use words::writing::encode;
 use words::writing::put_four;
 
 // The words of an answer.
-pub(crate) const ANSWER_WORDS: usize = 5;
+pub(crate) const ANSWER_WORDS: usize = 6;
 
-// Writes the answer into five words from p on. The caller has seen that they are there.
+// Writes the answer into six words from p on. The caller has seen that they are there.
 pub(crate) fn put_answer(s: &mut [u32], p: usize, a: Answer)
     requires { ⌜ p + answerWords ≤ length (now s) ⌝ }
     ensures { λ r. ⌜ now (s .exit) ≡ said (now (s .entry)) p a ⌝ }
@@ -28,6 +28,8 @@ pub(crate) fn put_answer(s: &mut [u32], p: usize, a: Answer)
     let t = o.tag();
     put_four(s, p, o.number(), a.refusal, t.ts, t.console);
     s[p + 4] = o.value();
+    let compared = a.compared;
+    s[p + 5] = compared.number();
 }
 
 // Writes the next board back, unless the step was refused. The caller has seen that the words reach for a board.
