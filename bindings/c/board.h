@@ -12,6 +12,8 @@
  *              5 there is no such node         10 there is no higher timestamp for the write
  *             14 the node is up
  *   said[2], said[3], said[4]  the tag's ts and console, and the value, if it has finished; else 0
+ *   said[5]  how the tag of a reply that was taken in compares with the best the console had before: 1 lower, 2 same,
+ *            3 higher; 0 for a refused step and one that takes no reply in
  *
  * If the step is accepted the next board is written back; if it is refused nothing of the lent board is written.
  *
@@ -30,10 +32,11 @@
  *
  *   0, 1     n and m
  *   2 on     four for each of 5 nodes: up (0 is down), ts, console, value
- *   22 on    six for each of 8 consoles: state (0 idle, 1 asking to read, 2 asking to write, 3 telling to read, 4 telling to
+ *   22 on    seven for each of 8 consoles: state (0 idle, 1 asking to read, 2 asking to write, 3 telling to read, 4 telling to
  *            write, from 5 on down), wanted value, answered set (bit k is node k; bits from 8 on are passed over), best ts,
- *            best console, best value
- *   70 on    four for each of 40 cells, at console times 5 plus node: frame (0 nothing, 1 ask, 2 reply, 3 put, from 4 on ack),
+ *            best console, best value, the mark 'all alike so far' (0 is off; it is on while every answer of this asking
+ *            carried one tag)
+ *   78 on    four for each of 40 cells, at console times 5 plus node: frame (0 nothing, 1 ask, 2 reply, 3 put, from 4 on ack),
  *            ts, console, value; the last three are passed over but for a reply and a put
  *
  * and an accepted step writes all of them anew, each number that is passed over as 0. */
@@ -43,8 +46,8 @@
 #include <stddef.h>
 #include <stdint.h>
 
-#define BOARD_WORDS 230
-#define ANSWER_WORDS 5
+#define BOARD_WORDS 238
+#define ANSWER_WORDS 6
 #define STEP_WORDS 3
 
 enum { STEP_FRESH, STEP_BEGIN_READ, STEP_BEGIN_WRITE, STEP_DELIVER, STEP_NODE_DOWN, STEP_CONSOLE_DOWN, STEP_NODE_UP };

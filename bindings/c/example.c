@@ -15,7 +15,8 @@ static uint32_t twice(uint32_t console, uint32_t node)
     return said[0];
 }
 
-/* the same write as one list of ten steps */
+/* the same write as one list of ten steps; the two replies that it takes in carry the fresh board's tag (0, 0), the same as the
+ * console's best */
 static int list(void)
 {
     static const uint32_t steps[10 * STEP_WORDS] = {
@@ -24,11 +25,12 @@ static int list(void)
         STEP_DELIVER, 1, 0, STEP_DELIVER, 1, 0, STEP_DELIVER, 1, 2, STEP_DELIVER, 1, 2,
     };
     static const uint32_t outcomes[10] = {1, 1, 2, 3, 2, 4, 2, 3, 2, 5};
+    static const uint32_t compared[10] = {0, 0, 0, 2, 0, 2, 0, 0, 0, 0};
     static uint32_t answers[10 * ANSWER_WORDS];
     if (board_run(words, BOARD_WORDS, steps, 10 * STEP_WORDS, answers, 10 * ANSWER_WORDS) != 0)
         return 9;
     for (int i = 0; i < 10; i++)
-        if (answers[i * ANSWER_WORDS] != outcomes[i])
+        if (answers[i * ANSWER_WORDS] != outcomes[i] || answers[i * ANSWER_WORDS + 5] != compared[i])
             return 10;
     return 0;
 }

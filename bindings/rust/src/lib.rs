@@ -3,7 +3,7 @@
 //! Console 1 of 2 writes 7 on three nodes; nodes 0 and 2 are a majority, so the write finishes without node 1:
 //!
 //! ```
-//! use hatukeno::{Board, Outcome, Refusal, Tag};
+//! use hatukeno::{Board, Compared, Outcome, Refusal, Tag};
 //!
 //! let mut board = Board::fresh(3, 2)?;
 //! board.begin_write(1, 7)?;
@@ -13,7 +13,12 @@
 //! }
 //! board.deliver(1, 2)?;
 //! let tag = Tag { ts: 1, console: 1 };
-//! assert_eq!(board.deliver(1, 2)?, Outcome::Finished { tag, value: 7 });
+//! assert_eq!(board.deliver(1, 2)?.outcome, Outcome::Finished { tag, value: 7 });
+//!
+//! // Console 0 asks node 0, whose reply carries a higher tag than the (0, 0) that the console began with.
+//! board.begin_read(0)?;
+//! board.deliver(0, 0)?;
+//! assert_eq!(board.deliver(0, 0)?.compared, Compared::Higher);
 //!
 //! // There is no console 2, and a refused step leaves the board as it was.
 //! let before = board.clone();
@@ -25,7 +30,7 @@
 //! A whole list of steps is one call. Console 0 reads what was written, by nodes 1 and 2:
 //!
 //! ```
-//! # use hatukeno::{Board, Outcome, Step, Tag};
+//! # use hatukeno::{Answer, Board, Compared, Outcome, Step, Tag};
 //! let deliver = |console, node| Step::Deliver { console, node };
 //! let mut steps = vec![Step::Fresh { n: 3, m: 2 }, Step::BeginWrite { console: 1, value: 7 }];
 //! steps.extend([0, 0, 2, 2, 0, 0, 2, 2].map(|node| deliver(1, node)));
@@ -34,18 +39,18 @@
 //!
 //! let mut board = Board::from_words([0; hatukeno::BOARD_WORDS]);
 //! let answers = board.run(&steps);
-//! let tag = Tag { ts: 1, console: 1 };
-//! assert_eq!(answers.last(), Some(&Ok(Outcome::Finished { tag, value: 7 })));
+//! let outcome = Outcome::Finished { tag: Tag { ts: 1, console: 1 }, value: 7 };
+//! assert_eq!(answers.last(), Some(&Ok(Answer { outcome, compared: Compared::None })));
 //! ```
 
 use std::error::Error;
 use std::fmt::{self, Display, Formatter};
 
 /// The words of a board (see [`Board::from_words`]).
-pub const BOARD_WORDS: usize = 230;
+pub const BOARD_WORDS: usize = 238;
 
-/// The words of an answer: the outcome's number, the refusal, the tag's ts and console, the value.
-const ANSWER_WORDS: usize = 5;
+/// The words of an answer: the outcome's number, the refusal, the tag's ts and console, the value, the comparison's number.
+const ANSWER_WORDS: usize = 6;
 
 /// The words of a step in a list: its number and its two numbers.
 const STEP_WORDS: usize = 3;
@@ -93,6 +98,23 @@ pub enum Outcome {
     Turned,
     Finished { tag: Tag, value: u32 },
     Discarded,
+}
+
+/// How the tag of a reply that was taken in compares with the best the console had before; `None` for a step that takes no
+/// reply in.
+#[derive(Clone, Copy, Debug, PartialEq, Eq)]
+pub enum Compared {
+    None,
+    Lower,
+    Same,
+    Higher,
+}
+
+/// What an accepted step answers.
+#[derive(Clone, Copy, Debug, PartialEq, Eq)]
+pub struct Answer {
+    pub outcome: Outcome,
+    pub compared: Compared,
 }
 
 /// A step of a list.
@@ -150,38 +172,38 @@ impl Board {
     }
 
     /// The console begins a read: it asks all nodes.
-    pub fn begin_read(&mut self, console: u32) -> Result<Outcome, Refusal> {
+    pub fn begin_read(&mut self, console: u32) -> Result<Answer, Refusal> {
         self.call(|w, wl, s, sl| unsafe { board_begin_read(w, wl, s, sl, console) })
     }
 
     /// The console begins a write of the value: it asks all nodes.
-    pub fn begin_write(&mut self, console: u32, value: u32) -> Result<Outcome, Refusal> {
+    pub fn begin_write(&mut self, console: u32, value: u32) -> Result<Answer, Refusal> {
         self.call(|w, wl, s, sl| unsafe { board_begin_write(w, wl, s, sl, console, value) })
     }
 
     /// The frame between the console and the node is delivered.
-    pub fn deliver(&mut self, console: u32, node: u32) -> Result<Outcome, Refusal> {
+    pub fn deliver(&mut self, console: u32, node: u32) -> Result<Answer, Refusal> {
         self.call(|w, wl, s, sl| unsafe { board_deliver(w, wl, s, sl, console, node) })
     }
 
     /// The node goes down: it keeps its tag and value, and frames for it wait.
-    pub fn node_down(&mut self, node: u32) -> Result<Outcome, Refusal> {
+    pub fn node_down(&mut self, node: u32) -> Result<Answer, Refusal> {
         self.call(|w, wl, s, sl| unsafe { board_node_down(w, wl, s, sl, node) })
     }
 
     /// The console goes down for good.
-    pub fn console_down(&mut self, console: u32) -> Result<Outcome, Refusal> {
+    pub fn console_down(&mut self, console: u32) -> Result<Answer, Refusal> {
         self.call(|w, wl, s, sl| unsafe { board_console_down(w, wl, s, sl, console) })
     }
 
     /// The node comes back with the tag and value that it held, and frames for it can be delivered again.
-    pub fn node_up(&mut self, node: u32) -> Result<Outcome, Refusal> {
+    pub fn node_up(&mut self, node: u32) -> Result<Answer, Refusal> {
         self.call(|w, wl, s, sl| unsafe { board_node_up(w, wl, s, sl, node) })
     }
 
     /// Puts the steps to the board, one after the other, and gives what each answered. A refused step leaves the board as it
     /// was, a refused fresh too, and the list goes on.
-    pub fn run(&mut self, steps: &[Step]) -> Vec<Result<Outcome, Refusal>> {
+    pub fn run(&mut self, steps: &[Step]) -> Vec<Result<Answer, Refusal>> {
         let list: Vec<u32> = steps.iter().flat_map(|step| step.words()).collect();
         let mut said = vec![0; steps.len() * ANSWER_WORDS];
         let (w, s) = (self.words.as_mut_ptr(), said.as_mut_ptr());
@@ -195,10 +217,11 @@ impl Board {
     ///
     /// - words 0 and 1: n and m
     /// - from 2 on, four for each of 5 nodes: up (0 is down), ts, console, value
-    /// - from 22 on, six for each of 8 consoles: state (0 idle, 1 asking to read, 2 asking to write, 3 telling to read, 4 telling
-    ///   to write, from 5 on down), wanted value, answered set (bit k is node k; bits from 8 on are passed over), best ts, best
-    ///   console, best value
-    /// - from 70 on, four for each of 40 cells, at console times 5 plus node: frame (0 nothing, 1 ask, 2 reply, 3 put, from 4 on
+    /// - from 22 on, seven for each of 8 consoles: state (0 idle, 1 asking to read, 2 asking to write, 3 telling to read, 4
+    ///   telling to write, from 5 on down), wanted value, answered set (bit k is node k; bits from 8 on are passed over), best
+    ///   ts, best console, best value, the mark 'all alike so far' (0 is off; it is on while every answer of this asking carried
+    ///   one tag)
+    /// - from 78 on, four for each of 40 cells, at console times 5 plus node: frame (0 nothing, 1 ask, 2 reply, 3 put, from 4 on
     ///   ack), ts, console, value; the last three are passed over but for a reply and a put
     ///
     /// An accepted step writes all words anew, each number that is passed over as 0 and each state and frame as its lowest
@@ -211,7 +234,7 @@ impl Board {
         &self.words
     }
 
-    fn call(&mut self, step: impl FnOnce(*mut u32, usize, *mut u32, usize) -> u32) -> Result<Outcome, Refusal> {
+    fn call(&mut self, step: impl FnOnce(*mut u32, usize, *mut u32, usize) -> u32) -> Result<Answer, Refusal> {
         let mut said = [0; ANSWER_WORDS];
         let short = step(self.words.as_mut_ptr(), BOARD_WORDS, said.as_mut_ptr(), ANSWER_WORDS);
         assert_eq!(short, 0, "both arrays have the library's lengths");
@@ -219,25 +242,38 @@ impl Board {
     }
 }
 
-fn answer(said: &[u32]) -> Result<Outcome, Refusal> {
-    match *said {
-        [0, refusal, 0, 0, 0] => Err(Refusal(refusal)),
-        [1, 0, 0, 0, 0] => Ok(Outcome::Done),
-        [2, 0, 0, 0, 0] => Ok(Outcome::Handed),
-        [3, 0, 0, 0, 0] => Ok(Outcome::Heard),
-        [4, 0, 0, 0, 0] => Ok(Outcome::Turned),
-        [5, 0, ts, console, value] => Ok(Outcome::Finished {
+fn answer(said: &[u32]) -> Result<Answer, Refusal> {
+    let outcome = match *said {
+        [0, refusal, 0, 0, 0, 0] => return Err(Refusal(refusal)),
+        [1, 0, 0, 0, 0, 0] => Outcome::Done,
+        [2, 0, 0, 0, 0, 0] => Outcome::Handed,
+        [3, 0, 0, 0, 0, _] => Outcome::Heard,
+        [4, 0, 0, 0, 0, _] => Outcome::Turned,
+        [5, 0, ts, console, value, 0] => Outcome::Finished {
             tag: Tag { ts, console },
             value,
-        }),
-        [6, 0, 0, 0, 0] => Ok(Outcome::Discarded),
+        },
+        [6, 0, 0, 0, 0, 0] => Outcome::Discarded,
         _ => unreachable!("{said:?} is no answer"),
-    }
+    };
+    let compared = match said[5] {
+        0 => Compared::None,
+        1 => Compared::Lower,
+        2 => Compared::Same,
+        3 => Compared::Higher,
+        _ => unreachable!("{said:?} is no answer"),
+    };
+    Ok(Answer { outcome, compared })
 }
 
 #[cfg(test)]
 mod tests {
     use super::*;
+
+    const DONE: Answer = Answer {
+        outcome: Outcome::Done,
+        compared: Compared::None,
+    };
 
     #[test]
     fn short_memory_is_refused_and_nothing_is_written() {
@@ -259,7 +295,7 @@ mod tests {
         let (w, s) = (words.as_mut_ptr(), said.as_mut_ptr());
         assert_eq!(unsafe { board_fresh(w, BOARD_WORDS, s, ANSWER_WORDS, 6, 2) }, 0);
         assert_eq!(words, [9; BOARD_WORDS]);
-        assert_eq!(said, [0, 2, 0, 0, 0]);
+        assert_eq!(said, [0, 2, 0, 0, 0, 0]);
         assert_eq!(Board::fresh(6, 2).unwrap_err().to_string(), "refused with 2: n is not from 1 to 5");
     }
 
@@ -277,9 +313,9 @@ mod tests {
     #[test]
     fn machines_go_down_once() {
         let mut board = Board::fresh(1, 1).unwrap();
-        assert_eq!(board.node_down(0), Ok(Outcome::Done));
+        assert_eq!(board.node_down(0), Ok(DONE));
         assert_eq!(board.node_down(0), Err(Refusal(9)));
-        assert_eq!(board.console_down(0), Ok(Outcome::Done));
+        assert_eq!(board.console_down(0), Ok(DONE));
         assert_eq!(board.console_down(0), Err(Refusal(6)));
         assert_eq!(board.begin_read(0), Err(Refusal(6)));
     }
@@ -294,12 +330,46 @@ mod tests {
         let before = board.clone();
         assert_eq!(board.node_up(0), Err(Refusal(14)));
         assert_eq!(board.node_up(1), Err(Refusal(5)));
-        assert_eq!(board.node_down(0), Ok(Outcome::Done));
-        assert_eq!(board.run(&[Step::NodeUp { node: 0 }]), [Ok(Outcome::Done)]);
+        assert_eq!(board.node_down(0), Ok(DONE));
+        assert_eq!(board.run(&[Step::NodeUp { node: 0 }]), [Ok(DONE)]);
         assert_eq!(board, before);
         let tag = Tag { ts: 1, console: 0 };
-        assert_eq!(board.deliver(0, 0), Ok(Outcome::Finished { tag, value: 7 }));
+        let finished = Answer {
+            outcome: Outcome::Finished { tag, value: 7 },
+            compared: Compared::None,
+        };
+        assert_eq!(board.deliver(0, 0), Ok(finished));
         assert_eq!(Refusal(14).to_string(), "refused with 14: the node is up");
+    }
+
+    #[test]
+    fn a_reply_says_how_its_tag_compares_with_the_best() {
+        let mut board = Board::fresh(5, 2).unwrap();
+        board.begin_write(1, 7).unwrap();
+        for node in [0, 0, 1, 1, 2, 2, 0, 0, 1, 1, 2, 2] {
+            board.deliver(1, node).unwrap();
+        }
+        // Nodes 3 and 4 still hold the fresh board's tag (0, 0), which is also the best that console 0 begins with.
+        assert_eq!(board.begin_read(0), Ok(DONE));
+        let mark = 22 + 6;
+        assert_eq!(board.words()[mark], 0);
+        let replies = [
+            (3, Outcome::Heard, Compared::Same, 1),
+            (0, Outcome::Heard, Compared::Higher, 0),
+            (4, Outcome::Turned, Compared::Lower, 0),
+        ];
+        for (node, outcome, compared, on) in replies {
+            assert_eq!(board.deliver(0, node).unwrap().compared, Compared::None);
+            assert_eq!(board.deliver(0, node), Ok(Answer { outcome, compared }));
+            assert_eq!(board.words()[mark], on);
+        }
+        // An ack is no reply.
+        board.deliver(0, 3).unwrap();
+        let heard = Answer {
+            outcome: Outcome::Heard,
+            compared: Compared::None,
+        };
+        assert_eq!(board.deliver(0, 3), Ok(heard));
     }
 
     #[test]
@@ -310,7 +380,7 @@ mod tests {
         assert_eq!(unsafe { board_fresh(w, words.len(), s, said.len(), 3, 2) }, 0);
         assert_eq!(words[..BOARD_WORDS], Board::fresh(3, 2).unwrap().words()[..]);
         assert_eq!(words[BOARD_WORDS], 9);
-        assert_eq!(said, [1, 0, 0, 0, 0, 9]);
+        assert_eq!(said, [1, 0, 0, 0, 0, 0, 9]);
     }
 
     #[test]
@@ -322,7 +392,7 @@ mod tests {
             Step::Deliver { console: 1, node: 0 },
             Step::ConsoleDown { console: 2 },
         ];
-        assert_eq!(board.run(&begun), [Ok(Outcome::Done), Ok(Outcome::Done)]);
+        assert_eq!(board.run(&begun), [Ok(DONE), Ok(DONE)]);
         let before = board.clone();
         assert_eq!(board.run(&refused), [Err(Refusal(2)), Err(Refusal(8)), Err(Refusal(4))]);
         assert_eq!(board, before);
@@ -346,10 +416,10 @@ mod tests {
         let mut said = [9; 2 * ANSWER_WORDS];
         let list = [0, 3, 2, 1, 0, 0];
         let (w, l, s) = (words.as_mut_ptr(), list.as_ptr(), said.as_mut_ptr());
-        assert_eq!(unsafe { board_run(w, BOARD_WORDS - 1, l, 6, s, 10) }, 1);
-        assert_eq!(unsafe { board_run(w, BOARD_WORDS, l, 6, s, 9) }, 2);
-        assert_eq!(unsafe { board_run(w, BOARD_WORDS, l, 5, s, 10) }, 3);
-        assert_eq!(unsafe { board_run(w, BOARD_WORDS, l, 4, s, 10) }, 3);
+        assert_eq!(unsafe { board_run(w, BOARD_WORDS - 1, l, 6, s, 12) }, 1);
+        assert_eq!(unsafe { board_run(w, BOARD_WORDS, l, 6, s, 11) }, 2);
+        assert_eq!(unsafe { board_run(w, BOARD_WORDS, l, 5, s, 12) }, 3);
+        assert_eq!(unsafe { board_run(w, BOARD_WORDS, l, 4, s, 12) }, 3);
         assert_eq!(words, [9; BOARD_WORDS]);
         assert_eq!(said, [9; 2 * ANSWER_WORDS]);
     }
@@ -361,8 +431,8 @@ mod tests {
         let mut said = [9; 2 * ANSWER_WORDS + 1];
         let list = [7, 0, 0, u32::MAX, 0, 0];
         let (w, l, s) = (words.as_mut_ptr(), list.as_ptr(), said.as_mut_ptr());
-        assert_eq!(unsafe { board_run(w, BOARD_WORDS, l, 6, s, 11) }, 0);
+        assert_eq!(unsafe { board_run(w, BOARD_WORDS, l, 6, s, 13) }, 0);
         assert_eq!(words, before);
-        assert_eq!(said, [0, 12, 0, 0, 0, 0, 12, 0, 0, 0, 9]);
+        assert_eq!(said, [0, 12, 0, 0, 0, 0, 0, 12, 0, 0, 0, 0, 9]);
     }
 }
