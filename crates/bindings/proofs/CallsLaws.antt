@@ -8,44 +8,44 @@ use borrow.Author.Tests.{leb-true, leb-false, le-leb, ne-eqb, eq-eqb}
 use lib.Dec.{eqb, leb}
 use Rattle.board.specs.declared.Answer.{Answer}
 use Rattle.board.specs.declared.Board.{Board}
-use Rattle.words.specs.Words.{decoded, encoded}
-use Rattle.bindings.specs.Calls.{said, kept, shortBy, code, Called}
+use Rattle.words.specs.Words.{boardWords, decoded, encoded}
+use Rattle.bindings.specs.Calls.{answerWords, said, kept, shortBy, code, Called}
 
 -- ---- lengths
 
-pub short-board : (w s : ℕ) → w < 238 → 1 ≡ shortBy w s
+pub short-board : (w s : ℕ) → w < boardWords → 1 ≡ shortBy w s
 unfolding shortBy
-short-board w s l = go (leb 238 w) refl
+short-board w s l = go (leb boardWords w) refl
   where
-    go : (t : Bool) → leb 238 w ≡ t → 1 ≡ shortBy w s
-    go true e = absurd (omega (arith, leb-true 238 w e))
+    go : (t : Bool) → leb boardWords w ≡ t → 1 ≡ shortBy w s
+    go true e = absurd (omega (arith, leb-true boardWords w e))
     go false e = rw e
 
-pub short-answer : (w s : ℕ) → 238 ≤ w → s < 6 → 2 ≡ shortBy w s
+pub short-answer : (w s : ℕ) → boardWords ≤ w → s < answerWords → 2 ≡ shortBy w s
 unfolding shortBy
-short-answer w s g l = go (leb 6 s) refl
+short-answer w s g l = go (leb answerWords s) refl
   where
-    go : (t : Bool) → leb 6 s ≡ t → 2 ≡ shortBy w s
-    go true e = absurd (omega (arith, leb-true 6 s e))
-    go false e = rw (le-leb 238 w g, e)
+    go : (t : Bool) → leb answerWords s ≡ t → 2 ≡ shortBy w s
+    go true e = absurd (omega (arith, leb-true answerWords s e))
+    go false e = rw (le-leb boardWords w g, e)
 
-pub long : (w s : ℕ) → 238 ≤ w → 6 ≤ s → 0 ≡ shortBy w s
+pub long : (w s : ℕ) → boardWords ≤ w → answerWords ≤ s → 0 ≡ shortBy w s
 unfolding shortBy
-long w s g h = rw (le-leb 238 w g, le-leb 6 s h)
+long w s g h = rw (le-leb boardWords w g, le-leb answerWords s h)
 
-pub long-board : (w s : ℕ) → shortBy w s ≡ 0 → 238 ≤ w
-long-board w s e = go (leb 238 w) refl e
+pub long-board : (w s : ℕ) → shortBy w s ≡ 0 → boardWords ≤ w
+long-board w s e = go (leb boardWords w) refl e
   where
-    go : (t : Bool) → leb 238 w ≡ t → shortBy w s ≡ 0 → 238 ≤ w
-    go true f e = leb-true 238 w f
-    go false f e = absurd (omega (arith, short-board w s (leb-false 238 w f), e))
+    go : (t : Bool) → leb boardWords w ≡ t → shortBy w s ≡ 0 → boardWords ≤ w
+    go true f e = leb-true boardWords w f
+    go false f e = absurd (omega (arith, short-board w s (leb-false boardWords w f), e))
 
-pub long-answer : (w s : ℕ) → shortBy w s ≡ 0 → 6 ≤ s
-long-answer w s e = go (leb 6 s) refl e
+pub long-answer : (w s : ℕ) → shortBy w s ≡ 0 → answerWords ≤ s
+long-answer w s e = go (leb answerWords s) refl e
   where
-    go : (t : Bool) → leb 6 s ≡ t → shortBy w s ≡ 0 → 6 ≤ s
-    go true f e = leb-true 6 s f
-    go false f e = absurd (omega (arith, short-answer w s (long-board w s e) (leb-false 6 s f), e))
+    go : (t : Bool) → leb answerWords s ≡ t → shortBy w s ≡ 0 → answerWords ≤ s
+    go true f e = leb-true answerWords s f
+    go false f e = absurd (omega (arith, short-answer w s (long-board w s e) (leb-false answerWords s f), e))
 
 -- ---- writing back
 

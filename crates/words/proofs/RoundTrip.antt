@@ -21,7 +21,7 @@ use Rattle.parts.specs.declared.Console.{Console}
 use Rattle.parts.specs.Finite.{one}
 use Rattle.parts.specs.Parts.{freshNode, idleConsole, cellOf}
 use Rattle.board.specs.declared.Board.{Board}
-use Rattle.words.specs.Words.{Byte, Bytes, word, nodePlace, consolePlace, cellPlace, nodeFrom, stateOf, consoleFrom, frameOf, cellFrom, allFrom, decoded, putFour, putNode, stateNumber, putConsole, frameNumber, frameTag, frameValue, putCell, putAll, putNodes, putConsoles, putCells, encoded}
+use Rattle.words.specs.Words.{Byte, Bytes, boardWords, word, nodePlace, consolePlace, cellPlace, nodeFrom, stateOf, consoleFrom, frameOf, cellFrom, allFrom, decoded, putFour, putNode, stateNumber, putConsole, frameNumber, frameTag, frameValue, putCell, putAll, putNodes, putConsoles, putCells, encoded}
 
 -- ---- one kind of part: s words each
 
@@ -296,7 +296,7 @@ pub record Typed (b : Board) : Type 0 where
   pub cells-40 : length (b .cells) ≡ 40
   pub bytes : Bytes (b .consoles) 8
 
-module _ (w : List ℕ) (b : Board) (h : 238 ≤ length w) (t : Typed b) where
+module _ (w : List ℕ) (b : Board) (h : boardWords ≤ length w) (t : Typed b) where
   abbrev w₁ : List ℕ
   w₁ = set (set w 0 (b .setup .n)) 1 (b .setup .m)
 
@@ -354,5 +354,5 @@ module _ (w : List ℕ) (b : Board) (h : 238 ≤ length w) (t : Typed b) where
   round-trip = rw (n-back, m-back, nodes-back, consoles-back, cells-back)
 
 -- so words that a board was written into are that board's
-pub written : (w w' : List ℕ) (b : Board) → 238 ≤ length w → Typed b → w' ≡ encoded w b → (w' ≡ encoded w b) × (decoded w' ≡ b)
+pub written : (w w' : List ℕ) (b : Board) → boardWords ≤ length w → Typed b → w' ≡ encoded w b → (w' ≡ encoded w b) × (decoded w' ≡ b)
 written w w' b h t e = (e, ap decoded e ∙ round-trip w b h t)
