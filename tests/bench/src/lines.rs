@@ -1,6 +1,6 @@
 //! Times a whole schedule: the program, the same in plain Rust, and the model, each a process that reads the same file.
-use crate::{goes_on, medians, Answer, Chance, Plain, Side, Step, LENGTH};
-use hatukeno::Outcome;
+use crate::{goes_on, medians, Chance, Plain, Side, Step, LENGTH};
+use hatukeno::{Outcome, Refusal};
 use std::fmt::Write;
 use std::fs::{self, File};
 use std::io;
@@ -60,15 +60,15 @@ impl Schedule {
                 Step::ConsoleDown(c) => [5, c, 0],
                 Step::NodeUp(k) => [6, k, 0],
             };
-            self.add(numbers, board.step(step));
+            self.add(numbers, board.step(step).map(|answer| answer.outcome));
         }
     }
 
-    fn add(&mut self, [verb, first, second]: [u32; 3], answer: Answer) {
+    fn add(&mut self, [verb, first, second]: [u32; 3], outcome: Result<Outcome, Refusal>) {
         writeln!(self.text, "{verb},{first},{second}").expect("memory takes all that is written");
         self.lines += 1;
-        self.refused += usize::from(answer.is_err());
-        self.finished += usize::from(matches!(answer, Ok(Outcome::Finished { .. })));
+        self.refused += usize::from(outcome.is_err());
+        self.finished += usize::from(matches!(outcome, Ok(Outcome::Finished { .. })));
     }
 }
 

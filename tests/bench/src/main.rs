@@ -19,7 +19,7 @@ use std::process::exit;
 use std::time::Instant;
 
 type Words = [u32; BOARD_WORDS];
-type Answer = Result<Outcome, Refusal>;
+type Answer = Result<hatukeno::Answer, Refusal>;
 type Plain = plain::Board<true>;
 type Unasked = plain::Board<false>;
 
@@ -128,9 +128,9 @@ impl Chance {
             }
             _ => {}
         }
-        let idle = (0..m).filter(|c| w[22 + 6 * *c as usize] == 0).count() as u32;
+        let idle = (0..m).filter(|c| w[22 + 7 * *c as usize] == 0).count() as u32;
         if self.below(16 * m) < idle {
-            let c = self.drawn((0..m).filter(|c| w[22 + 6 * *c as usize] == 0)).unwrap_or(0);
+            let c = self.drawn((0..m).filter(|c| w[22 + 7 * *c as usize] == 0)).unwrap_or(0);
             return if self.below(2) == 0 {
                 Step::BeginRead(c)
             } else {
@@ -138,7 +138,7 @@ impl Chance {
             };
         }
         // A reply or an ack is always taken; an ask or a put only by a node that is up.
-        let goes = |i: &u32| match w[70 + 4 * *i as usize] {
+        let goes = |i: &u32| match w[78 + 4 * *i as usize] {
             0 => false,
             1 | 3 => w[2 + 4 * (*i % 5) as usize] != 0,
             _ => true,
@@ -200,16 +200,19 @@ struct Run {
     steps: Vec<Step>,
 }
 
+/// Whether a step with this outcome or refusal belongs to a row.
+type IsOf = fn(Step, Result<Outcome, Refusal>) -> bool;
+
 /// One row of the table: up to BOARDS boards with a step on each, drawn evenly from all that there were.
 struct Row {
     name: &'static str,
-    is_of: fn(Step, Answer) -> bool,
+    is_of: IsOf,
     seen: u32,
     pairs: Vec<(Words, Step)>,
 }
 
 /// The rows, and which steps belong to each. Only a delivery has another outcome than done.
-const ROWS: [(&str, fn(Step, Answer) -> bool); 12] = [
+const ROWS: [(&str, IsOf); 12] = [
     ("begin read", |s, a| a.is_ok() && matches!(s, Step::BeginRead(_))),
     ("begin write", |s, a| a.is_ok() && matches!(s, Step::BeginWrite(..))),
     ("deliver", |s, a| a.is_ok() && matches!(s, Step::Deliver(..))),
@@ -237,7 +240,7 @@ impl Row {
 
 /// Whether some operation can still finish: a console is up. Nodes come back.
 fn goes_on(w: &Words) -> bool {
-    w[22..70].chunks(6).take(w[1] as usize).any(|x| x[0] != 5)
+    w[22..78].chunks(7).take(w[1] as usize).any(|x| x[0] != 5)
 }
 
 /// One run by chance on a size by chance, its steps sorted into the rows.
@@ -252,8 +255,8 @@ fn made_run(chance: &mut Chance, rows: &mut [Row]) -> Run {
     while steps.len() < LENGTH && goes_on(&words) {
         let before = words;
         let step = chance.step(&words);
-        let answer = both(&mut words, step);
-        for row in rows.iter_mut().filter(|row| (row.is_of)(step, answer)) {
+        let outcome = both(&mut words, step).map(|answer| answer.outcome);
+        for row in rows.iter_mut().filter(|row| (row.is_of)(step, outcome)) {
             row.take(before, step, chance);
         }
         steps.push(step);

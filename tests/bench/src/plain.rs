@@ -1,6 +1,7 @@
-//! The rules of document 01 and Paper 2 in plain Rust, written to be fast: one struct by value, changed in place. With CHECKED
-//! every step asks question 1 first, without it none does; all else is the same code.
-use hatukeno::{Outcome, Refusal, Tag, BOARD_WORDS};
+//! The rules of document 01 and Papers 2 and 3 in plain Rust, written to be fast: one struct by value, changed in place. With
+//! CHECKED every step asks question 1 first, without it none does; all else is the same code.
+use hatukeno::{Answer, Compared, Outcome, Refusal, Tag, BOARD_WORDS};
+use std::cmp::Ordering;
 
 const MAX_NODES: usize = 5;
 const MAX_CONSOLES: usize = 8;
@@ -32,6 +33,7 @@ enum State {
 struct Console {
     state: State,
     answered: u8,
+    alike: bool,
     wanted: u32,
     best: Tag,
     value: u32,
@@ -65,6 +67,7 @@ const fn resting(state: State) -> Console {
     Console {
         state,
         answered: 0,
+        alike: false,
         wanted: 0,
         best: ZERO,
         value: 0,
@@ -73,6 +76,22 @@ const fn resting(state: State) -> Console {
 
 fn is_greater(a: Tag, b: Tag) -> bool {
     (a.ts, a.console) > (b.ts, b.console)
+}
+
+fn compared(tag: Tag, best: Tag) -> Compared {
+    match (tag.ts, tag.console).cmp(&(best.ts, best.console)) {
+        Ordering::Less => Compared::Lower,
+        Ordering::Equal => Compared::Same,
+        Ordering::Greater => Compared::Higher,
+    }
+}
+
+/// The answer of a step that takes no reply in.
+fn took_none(outcome: Outcome) -> Result<Answer, Refusal> {
+    Ok(Answer {
+        outcome,
+        compared: Compared::None,
+    })
 }
 
 fn is_tag_ok(m: u32, t: Tag, value: u32) -> bool {
@@ -112,15 +131,15 @@ impl<const CHECKED: bool> Board<CHECKED> {
         })
     }
 
-    pub fn begin_read(&mut self, console: u32) -> Result<Outcome, Refusal> {
+    pub fn begin_read(&mut self, console: u32) -> Result<Answer, Refusal> {
         self.begin(console, Kind::Read, 0)
     }
 
-    pub fn begin_write(&mut self, console: u32, value: u32) -> Result<Outcome, Refusal> {
+    pub fn begin_write(&mut self, console: u32, value: u32) -> Result<Answer, Refusal> {
         self.begin(console, Kind::Write, value)
     }
 
-    pub fn deliver(&mut self, console: u32, node: u32) -> Result<Outcome, Refusal> {
+    pub fn deliver(&mut self, console: u32, node: u32) -> Result<Answer, Refusal> {
         self.ask_question_1()?;
         if console >= self.m {
             return Err(Refusal(4));
@@ -137,7 +156,7 @@ impl<const CHECKED: bool> Board<CHECKED> {
                     return Err(Refusal(9));
                 }
                 self.cells[at] = Cell::Reply(x.tag, x.value);
-                Ok(Outcome::Handed)
+                took_none(Outcome::Handed)
             }
             Cell::Put(tag, value) => {
                 let x = &mut self.nodes[node as usize];
@@ -148,14 +167,14 @@ impl<const CHECKED: bool> Board<CHECKED> {
                     (x.tag, x.value) = (tag, value);
                 }
                 self.cells[at] = Cell::Ack;
-                Ok(Outcome::Handed)
+                took_none(Outcome::Handed)
             }
             Cell::Reply(tag, value) => self.reply(console, node, at, tag, value),
             Cell::Ack => self.ack(console, node, at),
         }
     }
 
-    pub fn node_down(&mut self, node: u32) -> Result<Outcome, Refusal> {
+    pub fn node_down(&mut self, node: u32) -> Result<Answer, Refusal> {
         self.ask_question_1()?;
         if node >= self.n {
             return Err(Refusal(5));
@@ -165,10 +184,10 @@ impl<const CHECKED: bool> Board<CHECKED> {
             return Err(Refusal(9));
         }
         x.up = false;
-        Ok(Outcome::Done)
+        took_none(Outcome::Done)
     }
 
-    pub fn node_up(&mut self, node: u32) -> Result<Outcome, Refusal> {
+    pub fn node_up(&mut self, node: u32) -> Result<Answer, Refusal> {
         self.ask_question_1()?;
         if node >= self.n {
             return Err(Refusal(5));
@@ -178,10 +197,10 @@ impl<const CHECKED: bool> Board<CHECKED> {
             return Err(Refusal(14));
         }
         x.up = true;
-        Ok(Outcome::Done)
+        took_none(Outcome::Done)
     }
 
-    pub fn console_down(&mut self, console: u32) -> Result<Outcome, Refusal> {
+    pub fn console_down(&mut self, console: u32) -> Result<Answer, Refusal> {
         self.ask_question_1()?;
         if console >= self.m {
             return Err(Refusal(4));
@@ -191,10 +210,10 @@ impl<const CHECKED: bool> Board<CHECKED> {
             return Err(Refusal(6));
         }
         *x = resting(State::Down);
-        Ok(Outcome::Done)
+        took_none(Outcome::Done)
     }
 
-    fn begin(&mut self, console: u32, kind: Kind, wanted: u32) -> Result<Outcome, Refusal> {
+    fn begin(&mut self, console: u32, kind: Kind, wanted: u32) -> Result<Answer, Refusal> {
         self.ask_question_1()?;
         if console >= self.m {
             return Err(Refusal(4));
@@ -208,10 +227,10 @@ impl<const CHECKED: bool> Board<CHECKED> {
         *x = resting(State::Asking(kind));
         x.wanted = wanted;
         self.send(console, Cell::Ask);
-        Ok(Outcome::Done)
+        took_none(Outcome::Done)
     }
 
-    fn reply(&mut self, console: u32, node: u32, at: usize, tag: Tag, value: u32) -> Result<Outcome, Refusal> {
+    fn reply(&mut self, console: u32, node: u32, at: usize, tag: Tag, value: u32) -> Result<Answer, Refusal> {
         let q = self.majority();
         let x = &mut self.consoles[console as usize];
         let State::Asking(kind) = x.state else {
@@ -221,11 +240,18 @@ impl<const CHECKED: bool> Board<CHECKED> {
             return self.discard(at);
         }
         let answered = x.answered | 1 << node;
-        let (best, kept) = if is_greater(tag, x.best) { (tag, value) } else { (x.best, x.value) };
+        let compared = compared(tag, x.best);
+        let (best, kept) = if compared == Compared::Higher {
+            (tag, value)
+        } else {
+            (x.best, x.value)
+        };
         if answered.count_ones() < q {
+            x.alike = x.answered == 0 || (x.alike && compared == Compared::Same);
             (x.answered, x.best, x.value) = (answered, best, kept);
             self.cells[at] = Cell::Nothing;
-            return Ok(Outcome::Heard);
+            let outcome = Outcome::Heard;
+            return Ok(Answer { outcome, compared });
         }
         (x.best, x.value) = match kind {
             Kind::Read => (best, kept),
@@ -233,13 +259,14 @@ impl<const CHECKED: bool> Board<CHECKED> {
             Kind::Write => (Tag { ts: best.ts + 1, console }, x.wanted),
         };
         x.state = State::Telling(kind);
-        x.answered = 0;
+        (x.answered, x.alike) = (0, false);
         let put = Cell::Put(x.best, x.value);
         self.send(console, put);
-        Ok(Outcome::Turned)
+        let outcome = Outcome::Turned;
+        Ok(Answer { outcome, compared })
     }
 
-    fn ack(&mut self, console: u32, node: u32, at: usize) -> Result<Outcome, Refusal> {
+    fn ack(&mut self, console: u32, node: u32, at: usize) -> Result<Answer, Refusal> {
         let q = self.majority();
         let x = &mut self.consoles[console as usize];
         if !matches!(x.state, State::Telling(_)) || x.answered >> node & 1 == 1 {
@@ -248,16 +275,16 @@ impl<const CHECKED: bool> Board<CHECKED> {
         x.answered |= 1 << node;
         self.cells[at] = Cell::Nothing;
         if x.answered.count_ones() < q {
-            return Ok(Outcome::Heard);
+            return took_none(Outcome::Heard);
         }
         let (tag, value) = (x.best, x.value);
         *x = resting(State::Idle);
-        Ok(Outcome::Finished { tag, value })
+        took_none(Outcome::Finished { tag, value })
     }
 
-    fn discard(&mut self, at: usize) -> Result<Outcome, Refusal> {
+    fn discard(&mut self, at: usize) -> Result<Answer, Refusal> {
         self.cells[at] = Cell::Nothing;
-        Ok(Outcome::Discarded)
+        took_none(Outcome::Discarded)
     }
 
     /// All n cells of the console hold this.
@@ -297,15 +324,17 @@ impl<const CHECKED: bool> Board<CHECKED> {
     }
 
     fn is_console_ok(&self, x: &Console) -> bool {
-        let (kind, best_ok) = match x.state {
+        let count = x.answered.count_ones();
+        let (kind, phase_ok) = match x.state {
             State::Idle | State::Down => return *x == resting(x.state),
-            State::Asking(kind) => (kind, x.answered != 0 || (x.best == ZERO && x.value == 0)),
-            State::Telling(kind) => (kind, true),
+            State::Asking(kind) if count == 0 => (kind, !x.alike && x.best == ZERO && x.value == 0),
+            State::Asking(kind) => (kind, x.alike || count > 1),
+            State::Telling(kind) => (kind, !x.alike),
         };
-        best_ok
+        phase_ok
             && is_tag_ok(self.m, x.best, x.value)
             && x.answered < 1 << self.n
-            && x.answered.count_ones() < self.majority()
+            && count < self.majority()
             && (kind == Kind::Write || x.wanted == 0)
     }
 
@@ -316,7 +345,7 @@ impl<const CHECKED: bool> Board<CHECKED> {
         for (four, x) in w[2..22].chunks_exact_mut(4).zip(&self.nodes) {
             four.copy_from_slice(&[u32::from(x.up), x.tag.ts, x.tag.console, x.value]);
         }
-        for (six, x) in w[22..70].chunks_exact_mut(6).zip(&self.consoles) {
+        for (seven, x) in w[22..78].chunks_exact_mut(7).zip(&self.consoles) {
             let state = match x.state {
                 State::Idle => 0,
                 State::Asking(Kind::Read) => 1,
@@ -325,9 +354,10 @@ impl<const CHECKED: bool> Board<CHECKED> {
                 State::Telling(Kind::Write) => 4,
                 State::Down => 5,
             };
-            six.copy_from_slice(&[state, x.wanted, x.answered.into(), x.best.ts, x.best.console, x.value]);
+            let (answered, alike) = (x.answered.into(), x.alike.into());
+            seven.copy_from_slice(&[state, x.wanted, answered, x.best.ts, x.best.console, x.value, alike]);
         }
-        for (four, x) in w[70..].chunks_exact_mut(4).zip(&self.cells) {
+        for (four, x) in w[78..].chunks_exact_mut(4).zip(&self.cells) {
             four.copy_from_slice(&match *x {
                 Cell::Nothing => [0; 4],
                 Cell::Ask => [1, 0, 0, 0],
@@ -354,9 +384,9 @@ impl<const CHECKED: bool> Board<CHECKED> {
                 }
             }),
             consoles: std::array::from_fn(|c| {
-                let six = &w[22 + 6 * c..];
+                let seven = &w[22 + 7 * c..];
                 Console {
-                    state: match six[0] {
+                    state: match seven[0] {
                         0 => State::Idle,
                         1 => State::Asking(Kind::Read),
                         2 => State::Asking(Kind::Write),
@@ -364,14 +394,15 @@ impl<const CHECKED: bool> Board<CHECKED> {
                         4 => State::Telling(Kind::Write),
                         _ => State::Down,
                     },
-                    wanted: six[1],
-                    answered: six[2] as u8,
-                    best: tag(&six[3..]),
-                    value: six[5],
+                    wanted: seven[1],
+                    answered: seven[2] as u8,
+                    best: tag(&seven[3..]),
+                    value: seven[5],
+                    alike: seven[6] != 0,
                 }
             }),
             cells: std::array::from_fn(|i| {
-                let four = &w[70 + 4 * i..];
+                let four = &w[78 + 4 * i..];
                 match four[0] {
                     0 => Cell::Nothing,
                     1 => Cell::Ask,

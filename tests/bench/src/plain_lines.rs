@@ -38,15 +38,16 @@ fn without_end(line: &[u8]) -> &[u8] {
     }
 }
 
+/// The outcome; Paper 3 leaves the lines as they are, so how a reply compared is left aside.
 fn answer<const CHECKED: bool>(board: &mut Board<CHECKED>, line: &[u8]) -> Result<Outcome, Refusal> {
     if line.len() > LONGEST {
         return Err(Refusal(13));
     }
     let [verb, first, second] = numbers(line).ok_or(Refusal(11))?;
-    match verb {
+    let answer = match verb {
         0 => {
             *board = Board::fresh(first, second)?;
-            Ok(Outcome::Done)
+            return Ok(Outcome::Done);
         }
         1 => board.begin_read(first),
         2 => board.begin_write(first, second),
@@ -55,7 +56,8 @@ fn answer<const CHECKED: bool>(board: &mut Board<CHECKED>, line: &[u8]) -> Resul
         5 => board.console_down(first),
         6 => board.node_up(first),
         _ => Err(Refusal(12)),
-    }
+    };
+    answer.map(|answer| answer.outcome)
 }
 
 fn numbers(line: &[u8]) -> Option<[u32; 3]> {
