@@ -7,6 +7,7 @@
 //! The second writes what the model answers to the schedule.
 mod chance;
 mod drawing;
+mod known;
 mod model;
 mod rules;
 mod schedule;
@@ -15,7 +16,7 @@ mod words;
 
 use chance::Chance;
 use hatukeno::{Board, Refusal, BOARD_WORDS};
-use model::{Fault, Model, Outcome, Step};
+use model::{Answer, Compared, Fault, Model, Outcome, Step};
 use rules::{Counts, Run};
 use std::path::PathBuf;
 use std::process::exit;
@@ -25,7 +26,10 @@ use words::Words;
 const LENGTH: u32 = 500;
 const MAX_TS: u32 = 4_000_000_000;
 
-fn put(board: &mut Board, step: Step) -> Result<hatukeno::Outcome, Refusal> {
+/// What the library answers.
+type Said = Result<hatukeno::Answer, Refusal>;
+
+fn put(board: &mut Board, step: Step) -> Said {
     match step {
         Step::BeginRead(c) => board.begin_read(c),
         Step::BeginWrite(c, v) => board.begin_write(c, v),
@@ -50,63 +54,74 @@ fn same(a: hatukeno::Outcome, b: Outcome) -> bool {
     }
 }
 
-fn alike(library: &Result<hatukeno::Outcome, Refusal>, model: &Result<Outcome, u32>) -> bool {
-    match (library, model) {
-        (Ok(a), Ok(b)) => same(*a, *b),
-        (Err(a), Err(b)) => a.0 == *b,
+fn same_comparison(a: hatukeno::Compared, b: Compared) -> bool {
+    matches!(
+        (a, b),
+        (hatukeno::Compared::None, Compared::None)
+            | (hatukeno::Compared::Lower, Compared::Lower)
+            | (hatukeno::Compared::Same, Compared::Same)
+            | (hatukeno::Compared::Higher, Compared::Higher)
+    )
+}
+
+/// A refusal of the library has no other words than its number; the crate sees to that.
+fn alike(library: &Said, model: &Answer) -> bool {
+    match (library, model.outcome) {
+        (Ok(a), Ok(b)) => same(a.outcome, b) && same_comparison(a.compared, model.compared),
+        (Err(a), Err(b)) => a.0 == b && model.compared == Compared::None,
         _ => false,
     }
 }
 
 /// Puts the step to both, and gives the model's answer. A difference is printed whole, and ends the program.
-fn both(board: &mut Board, model: &mut Model, step: Step, fault: Fault) -> Result<Outcome, u32> {
+fn both(board: &mut Board, model: &mut Model, step: Step, fault: Fault) -> Answer {
     let before = *board.words();
     let library = put(board, step);
-    let expected = model.step(step, fault);
-    let agree = match (&library, &expected) {
-        (Ok(a), Ok((b, next))) => same(*a, *b) && *board.words() == words::write(next),
-        (Err(a), Err(b)) => a.0 == *b && *board.words() == before,
-        _ => false,
-    };
-    if !agree {
+    let (expected, next) = model.step(step, fault);
+    let after = if expected.outcome.is_ok() { words::write(&next) } else { before };
+    if !alike(&library, &expected) || *board.words() != after {
         println!("a difference at {step:?}");
         println!("the board was {:?}", words::read(&before));
         println!("its words were {before:?}");
         println!("the library answered {library:?}, its words are {:?}", board.words());
-        println!("the model answered {expected:?}");
+        println!("the model answered {expected:?}, its board is {next:?}");
         exit(1);
     }
-    expected.map(|(outcome, next)| {
-        *model = next;
-        outcome
-    })
+    *model = next;
+    expected
 }
 
-/// The same run as one list, twice over with a refused fresh between, on words that are no well-formed board's: the answers
-/// must be the model's, and the last board the one that the steps left one by one.
-fn listed(n: u32, m: u32, steps: &[(Step, Result<Outcome, u32>)], board: &Board) {
-    let mut run = vec![hatukeno::Step::Fresh { n, m }];
-    run.extend(steps.iter().map(|(step, _)| match *step {
+fn in_list(step: Step) -> hatukeno::Step {
+    match step {
         Step::BeginRead(console) => hatukeno::Step::BeginRead { console },
         Step::BeginWrite(console, value) => hatukeno::Step::BeginWrite { console, value },
         Step::Deliver(console, node) => hatukeno::Step::Deliver { console, node },
         Step::NodeDown(node) => hatukeno::Step::NodeDown { node },
         Step::ConsoleDown(console) => hatukeno::Step::ConsoleDown { console },
         Step::NodeUp(node) => hatukeno::Step::NodeUp { node },
-    }));
-    let list = [run.clone(), vec![hatukeno::Step::Fresh { n: 0, m }], run].concat();
-    let mut answers = vec![Ok(Outcome::Done)];
-    answers.extend(steps.iter().map(|(_, answer)| *answer));
-    let answers = [answers.clone(), vec![Err(2)], answers].concat();
-    let mut other = Board::from_words([u32::MAX; BOARD_WORDS]);
-    let said = other.run(&list);
-    let agree = said.len() == answers.len() && said.iter().zip(&answers).all(|(a, b)| alike(a, b));
-    if !agree || other != *board {
+    }
+}
+
+/// Puts the list to a board: the answers must be the model's, and the last board the one that the steps left one by one.
+fn listed(mut board: Board, list: &[hatukeno::Step], answers: &[Answer], last: &Board) {
+    let said = board.run(list);
+    let agree = said.len() == answers.len() && said.iter().zip(answers).all(|(a, b)| alike(a, b));
+    if !agree || board != *last {
         println!("a difference at the list {list:?}");
-        println!("the list answered {said:?}, its words are {:?}", other.words());
-        println!("the model answered {answers:?}, one by one the words are {:?}", board.words());
+        println!("the list answered {said:?}, its words are {:?}", board.words());
+        println!("the model answered {answers:?}, one by one the words are {:?}", last.words());
         exit(1);
     }
+}
+
+/// The same run as one list, twice over with a refused fresh between, on words that are no well-formed board's.
+fn listed_twice(n: u32, m: u32, steps: &[Step], answers: &[Answer], last: &Board) {
+    let mut run = vec![hatukeno::Step::Fresh { n, m }];
+    run.extend(steps.iter().copied().map(in_list));
+    let list = [run.clone(), vec![hatukeno::Step::Fresh { n: 0, m }], run].concat();
+    let made = [&[Answer::plain(Ok(Outcome::Done))], answers].concat();
+    let answers = [made.clone(), vec![Answer::plain(Err(2))], made].concat();
+    listed(Board::from_words([u32::MAX; BOARD_WORDS]), &list, &answers, last);
 }
 
 /// One run from a fresh board.
@@ -115,21 +130,42 @@ fn run(n: u32, m: u32, crashes: bool, chance: &mut Chance, fault: Fault, counts:
     let mut model = Model::fresh(n, m).expect("an allowed size");
     fresh(n, m);
     let mut held = Run::fresh(n, fault);
-    let mut steps = Vec::new();
+    let (mut steps, mut answers) = (Vec::new(), Vec::new());
     for _ in 0..LENGTH {
         let step = chance.step(n, m, crashes);
         let before = board.clone();
         let answer = both(&mut board, &mut model, step, fault);
-        steps.push((step, answer));
+        steps.push(step);
+        answers.push(answer);
         held.take(step, answer, &before, &board, counts);
     }
-    listed(n, m, &steps, &board);
+    listed_twice(n, m, &steps, &answers, &board);
 }
 
-/// A board some steps into a run.
-fn some_board(n: u32, m: u32, chance: &mut Chance) -> Words {
+/// A run from a board whose nodes hold tags beside the last timestamp, one by one and as a list: how many deliveries were refused
+/// with 10. Demand 3 does not speak of such a run.
+fn late(n: u32, m: u32, chance: &mut Chance, fault: Fault) -> u64 {
+    let mut model = Model::fresh(n, m).expect("an allowed size");
+    for node in model.nodes.values_mut().take(n as usize) {
+        node.tag = (u64::from(MAX_TS - chance.below(3)), u64::from(chance.below(m)));
+        node.value = chance.value();
+    }
+    let first = Board::from_words(words::write(&model));
+    let mut board = first.clone();
+    let (mut list, mut answers) = (Vec::new(), Vec::new());
+    for _ in 0..LENGTH {
+        let step = chance.step(n, m, false);
+        answers.push(both(&mut board, &mut model, step, fault));
+        list.push(in_list(step));
+    }
+    listed(first, &list, &answers, &board);
+    answers.iter().filter(|answer| answer.outcome == Err(10)).count() as u64
+}
+
+/// A board some steps into a run, fewer than this many.
+fn some_board(n: u32, m: u32, most: u32, chance: &mut Chance) -> Words {
     let mut board = Board::fresh(n, m).expect("an allowed size");
-    for _ in 0..chance.below(30) {
+    for _ in 0..chance.below(most) {
         let step = chance.step(n, m, true);
         let _ = put(&mut board, step);
     }
@@ -158,7 +194,7 @@ impl Damaged {
             Step::NodeUp(chance.number(n)),
         ];
         for step in steps {
-            both(&mut Board::from_words(words), &mut model.clone(), step, fault).ok();
+            both(&mut Board::from_words(words), &mut model.clone(), step, fault);
         }
         if model.is_well_formed(fault) {
             self.well += 1;
@@ -178,7 +214,7 @@ fn edges(n: u32) -> impl Iterator<Item = u32> {
 
 /// Every word of a board at every edge, one at a time.
 fn swept(n: u32, m: u32, chance: &mut Chance, fault: Fault, seen: &mut Damaged) {
-    let words = some_board(n, m, chance);
+    let words = some_board(n, m, 30, chance);
     for i in 0..BOARD_WORDS {
         for number in edges(n) {
             let mut damaged = words;
@@ -191,7 +227,7 @@ fn swept(n: u32, m: u32, chance: &mut Chance, fault: Fault, seen: &mut Damaged) 
 /// A board with one word out of place, one time in four more.
 fn damaged(chance: &mut Chance, fault: Fault, seen: &mut Damaged) {
     let (n, m) = (1 + chance.below(5), 1 + chance.below(8));
-    let mut words = some_board(n, m, chance);
+    let mut words = some_board(n, m, 30, chance);
     let mut set = 0;
     loop {
         let i = chance.below(BOARD_WORDS as u32) as usize;
@@ -217,85 +253,6 @@ fn fresh(n: u32, m: u32) {
         println!("a difference at fresh {n} {m}: {library:?}, {expected:?}");
         exit(1);
     }
-}
-
-/// A board of the library and the model beside it, for runs of which each answer is known.
-struct Known {
-    board: Board,
-    model: Model,
-}
-
-impl Known {
-    fn fresh(n: u32, m: u32) -> Known {
-        Known {
-            board: Board::fresh(n, m).expect("an allowed size"),
-            model: Model::fresh(n, m).expect("an allowed size"),
-        }
-    }
-
-    fn expect(&mut self, step: Step, answer: Result<Outcome, u32>) {
-        let got = both(&mut self.board, &mut self.model, step, 0);
-        if got != answer {
-            println!("{step:?} answered {got:?}, not {answer:?}");
-            exit(1);
-        }
-    }
-
-    /// An operation that this step begins goes through by the two nodes, a majority, each answering at once.
-    fn finish(&mut self, c: u32, begin: Step, nodes: [u32; 2], finished: Outcome) {
-        self.expect(begin, Ok(Outcome::Done));
-        for last in [Outcome::Turned, finished] {
-            for (k, heard) in nodes.into_iter().zip([Outcome::Heard, last]) {
-                self.expect(Step::Deliver(c, k), Ok(Outcome::Handed));
-                self.expect(Step::Deliver(c, k), Ok(heard));
-            }
-        }
-    }
-
-    /// After these steps console 0 asks, and nodes 0 and 1 of three are down. Once node 2 has answered, no frame can be delivered.
-    fn wait(&mut self, steps: [Step; 3]) {
-        for step in steps {
-            self.expect(step, Ok(Outcome::Done));
-        }
-        self.expect(Step::Deliver(0, 2), Ok(Outcome::Handed));
-        self.expect(Step::Deliver(0, 2), Ok(Outcome::Heard));
-        self.expect(Step::Deliver(0, 0), Err(9));
-        self.expect(Step::Deliver(0, 1), Err(9));
-        self.expect(Step::Deliver(0, 2), Err(8));
-    }
-}
-
-/// Both extras of document 01.
-fn extras() {
-    let mut board = Known::fresh(3, 2);
-    board.finish(1, Step::BeginWrite(1, 7), [0, 2], Outcome::Finished((1, 1), 7));
-    board.expect(Step::Deliver(1, 1), Ok(Outcome::Handed));
-    board.expect(Step::Deliver(1, 1), Ok(Outcome::Discarded));
-
-    let mut board = Known::fresh(3, 2);
-    board.wait([Step::NodeDown(0), Step::NodeDown(1), Step::BeginRead(0)]);
-}
-
-/// Paper 2. A console waits without a majority, and goes on once a node is back.
-fn node_back() {
-    let mut board = Known::fresh(3, 1);
-    board.wait([Step::BeginRead(0), Step::NodeDown(0), Step::NodeDown(1)]);
-    board.expect(Step::NodeUp(1), Ok(Outcome::Done));
-    board.expect(Step::Deliver(0, 1), Ok(Outcome::Handed));
-    board.expect(Step::NodeUp(1), Err(14));
-    board.expect(Step::NodeUp(3), Err(5));
-    board.expect(Step::NodeUp(u32::MAX), Err(5));
-    board.expect(Step::Deliver(0, 1), Ok(Outcome::Turned));
-}
-
-/// Paper 2. Of nodes 0 and 1 only node 0 took the write, and a read by these two hears it from there after its down and up.
-fn disk_intact() {
-    let mut board = Known::fresh(3, 2);
-    let written = Outcome::Finished((1, 1), 7);
-    board.finish(1, Step::BeginWrite(1, 7), [0, 2], written);
-    board.expect(Step::NodeDown(0), Ok(Outcome::Done));
-    board.expect(Step::NodeUp(0), Ok(Outcome::Done));
-    board.finish(0, Step::BeginRead(0), [0, 1], written);
 }
 
 struct Options {
@@ -389,6 +346,74 @@ fn shows_node_ups(counts: &[Counts]) -> bool {
     ways.into_iter().all(|way| sum(counts, way) > 0)
 }
 
+fn print_replies(counts: &[Counts]) {
+    println!(
+        "{} replies taken in were lower, {} the same, {} higher; {} set the mark, {} kept it, {} cleared it by a differing tag, {} by the turn",
+        sum(counts, |t| t.lower),
+        sum(counts, |t| t.same),
+        sum(counts, |t| t.higher),
+        sum(counts, |t| t.set),
+        sum(counts, |t| t.kept),
+        sum(counts, |t| t.cleared),
+        sum(counts, |t| t.turned)
+    );
+}
+
+/// Whether replies compared in every way, and did to the mark all that a reply can.
+fn shows_replies(counts: &[Counts]) -> bool {
+    let ways: [fn(&Counts) -> u64; 7] = [
+        |t| t.lower,
+        |t| t.same,
+        |t| t.higher,
+        |t| t.set,
+        |t| t.kept,
+        |t| t.cleared,
+        |t| t.turned,
+    ];
+    ways.into_iter().all(|way| sum(counts, way) > 0)
+}
+
+/// All that was seen of the library.
+struct Seen {
+    steps: u64,
+    counts: Vec<Counts>,
+    /// Deliveries refused with 10 in the runs beside the last timestamp.
+    without_next: u64,
+    damaged: Damaged,
+}
+
+impl Seen {
+    fn print(&self, seed: u64) {
+        let Damaged { ill, by_one, well } = self.damaged;
+        print_sizes(&self.counts);
+        println!("seed {seed}: {} steps on 40 sizes agree, one by one and as lists", self.steps);
+        println!(
+            "and 7 steps on each of {ill} damaged boards, {by_one} of them by one word, and of {well} that were well formed all the same"
+        );
+        println!(
+            "and runs beside the last timestamp, {} of their deliveries refused with 10",
+            self.without_next
+        );
+        print_node_ups(&self.counts);
+        print_replies(&self.counts);
+    }
+
+    /// Ends the program if something was not seen that is to be compared.
+    fn hold(&self) {
+        let missing = if self.steps > 0 && !shows_node_ups(&self.counts) {
+            "node ups"
+        } else if self.steps > 0 && !shows_replies(&self.counts) {
+            "replies"
+        } else if self.without_next == 0 {
+            "refusal 10"
+        } else {
+            return;
+        };
+        println!("the runs do not show {missing} in every way that is to be compared");
+        exit(1);
+    }
+}
+
 /// The library beside the model: so many steps of runs, and so many damaged boards.
 fn library(steps: u64, boards: u64, seed: u64, fault: Fault) {
     for (n, m) in [(0, 0), (0, 9), (5, 8), (6, 1), (5, 9), (5, 0), (u32::MAX, 1), (1, u32::MAX)] {
@@ -396,40 +421,36 @@ fn library(steps: u64, boards: u64, seed: u64, fault: Fault) {
     }
     // A fault is to be found by the runs by chance.
     if fault == 0 {
-        extras();
-        node_back();
-        disk_intact();
+        known::runs();
     }
 
     let sizes: Vec<(u32, u32)> = (0..40).map(|i| (1 + i / 8, 1 + i % 8)).collect();
     let mut chance = Chance(seed);
-    let mut counts = vec![Counts::default(); 40];
-    let mut seen = Damaged::default();
-    let (mut done, mut crashes) = (0, true);
-    while done < steps {
-        for ((n, m), of_size) in sizes.iter().zip(&mut counts) {
+    let mut seen = Seen {
+        steps: 0,
+        counts: vec![Counts::default(); 40],
+        without_next: 0,
+        damaged: Damaged::default(),
+    };
+    let mut crashes = true;
+    while seen.steps < steps {
+        for ((n, m), of_size) in sizes.iter().zip(&mut seen.counts) {
             run(*n, *m, crashes, &mut chance, fault, of_size);
-            done += u64::from(LENGTH);
+            seen.steps += u64::from(LENGTH);
         }
         crashes = !crashes;
     }
     for (n, m) in sizes {
-        swept(n, m, &mut chance, fault, &mut seen);
+        seen.without_next += late(n, m, &mut chance, fault);
+        swept(n, m, &mut chance, fault, &mut seen.damaged);
     }
-    while seen.ill < boards {
-        damaged(&mut chance, fault, &mut seen);
+    while seen.damaged.ill < boards {
+        damaged(&mut chance, fault, &mut seen.damaged);
     }
 
-    print_sizes(&counts);
-    println!("seed {seed}: {done} steps on 40 sizes agree, one by one and as lists");
-    println!(
-        "and 7 steps on each of {} damaged boards, {} of them by one word, and of {} that were well formed all the same",
-        seen.ill, seen.by_one, seen.well
-    );
-    print_node_ups(&counts);
-    if fault == 0 && done > 0 && !shows_node_ups(&counts) {
-        println!("the runs do not show node ups in every way that is to be compared");
-        exit(1);
+    seen.print(seed);
+    if fault == 0 {
+        seen.hold();
     }
 }
 

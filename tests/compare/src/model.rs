@@ -1,4 +1,5 @@
-//! The board as document 01 and Paper 2 say it, in sets and maps. Nothing here is shared with the library.
+//! The board as document 01 and Papers 2 and 3 say it, in sets and maps. Nothing here is shared with the library.
+use std::cmp::Ordering;
 use std::collections::{BTreeMap, BTreeSet};
 
 pub const MAX_TS: u64 = 4_000_000_000;
@@ -42,6 +43,8 @@ pub struct Console {
     pub answered: BTreeSet<u32>,
     pub best: Tag,
     pub value: u32,
+    /// Paper 3's mark: all alike so far.
+    pub alike: bool,
 }
 
 /// Nodes 0 to 4 and consoles 0 to 7 are always there; a cell is there if it holds a frame.
@@ -74,6 +77,42 @@ pub enum Outcome {
     Discarded,
 }
 
+/// How the tag of a reply that was taken in stood to the old best; none if no reply was.
+#[derive(Clone, Copy, Debug, PartialEq, Eq)]
+pub enum Compared {
+    None,
+    Lower,
+    Same,
+    Higher,
+}
+
+impl Compared {
+    fn of(tag: Tag, best: Tag) -> Compared {
+        match tag.cmp(&best) {
+            Ordering::Less => Compared::Lower,
+            Ordering::Equal => Compared::Same,
+            Ordering::Greater => Compared::Higher,
+        }
+    }
+}
+
+/// What a step answers: its outcome or its refusal, and how the reply compared.
+#[derive(Clone, Copy, Debug, PartialEq, Eq)]
+pub struct Answer {
+    pub outcome: Result<Outcome, u32>,
+    pub compared: Compared,
+}
+
+impl Answer {
+    /// Of a step that takes no reply in.
+    pub fn plain(outcome: Result<Outcome, u32>) -> Answer {
+        Answer {
+            outcome,
+            compared: Compared::None,
+        }
+    }
+}
+
 /// A deliberate fault, to show that a comparison can fail. 0 is none; those after the last here are in rules.rs and schedule.rs.
 pub type Fault = u32;
 pub const READ_UNTOLD: Fault = 1;
@@ -87,7 +126,14 @@ pub const DISK_LOST: Fault = 8;
 pub const UP_BEFORE_NUMBER: Fault = 9;
 pub const WAITING_LOST: Fault = 10;
 pub const UP_TWICE: Fault = 11;
-pub const LAST_FAULT: Fault = UP_TWICE;
+pub const NEW_BEST_COMPARED: Fault = 12;
+pub const MARK_BY_ANY: Fault = 13;
+pub const MARK_KEPT_AT_TURN: Fault = 14;
+pub const REFUSED_COMPARED: Fault = 15;
+pub const MARK_KEPT_BY_LOWER: Fault = 16;
+pub const DISCARDED_COMPARED: Fault = 17;
+pub const ONE_UNMARKED: Fault = 18;
+pub const LAST_FAULT: Fault = ONE_UNMARKED;
 
 fn fresh_node() -> Node {
     Node {
@@ -104,6 +150,38 @@ fn at_rest(state: State) -> Console {
         answered: BTreeSet::new(),
         best: (0, 0),
         value: 0,
+        alike: false,
+    }
+}
+
+impl Console {
+    /// Off in the telling, idle and down states and while nothing is answered, on at exactly one answer of asking.
+    fn is_mark_good(&self, fault: Fault) -> bool {
+        match (self.state, self.answered.len()) {
+            (State::Telling(_) | State::Idle | State::Down, _) | (State::Asking(_), 0) => !self.alike,
+            (State::Asking(_), 1) => self.alike || fault == ONE_UNMARKED,
+            (State::Asking(_), _) => true,
+        }
+    }
+
+    /// The node answers with this tag and value. The first answer sets the mark, a later one whose tag differs clears it.
+    fn take_reply(&mut self, k: u32, tag: Tag, value: u32, fault: Fault) -> Compared {
+        let compared = Compared::of(tag, self.best);
+        let kept_by = |it| it == Compared::Same || (fault == MARK_KEPT_BY_LOWER && it == Compared::Lower);
+        if self.answered.is_empty() || fault == MARK_BY_ANY {
+            self.alike = true;
+        } else if !kept_by(compared) {
+            self.alike = false;
+        }
+        self.answered.insert(k);
+        if tag > self.best {
+            self.best = tag;
+            self.value = value;
+        }
+        if fault == NEW_BEST_COMPARED {
+            return Compared::of(tag, self.best);
+        }
+        compared
     }
 }
 
@@ -138,10 +216,9 @@ impl Model {
             .nodes
             .iter()
             .all(|(k, x)| good(x.tag, x.value) && (*k < self.n || *x == fresh_node()));
-        let consoles = self
-            .consoles
-            .iter()
-            .all(|(c, x)| good(x.best, x.value) && self.is_console_good(x) && (*c < self.m || *x == at_rest(State::Idle)));
+        let consoles = self.consoles.iter().all(|(c, x)| {
+            good(x.best, x.value) && self.is_console_good(x) && x.is_mark_good(fault) && (*c < self.m || *x == at_rest(State::Idle))
+        });
         let cells = self.cells.iter().all(|((c, k), f)| {
             *c < self.m
                 && *k < self.n
@@ -166,10 +243,10 @@ impl Model {
         }
     }
 
-    /// The outcome and the next board, or the refusal.
-    pub fn step(&self, step: Step, fault: Fault) -> Result<(Outcome, Model), u32> {
+    /// The answer and the next board, which is this one if the step is refused.
+    pub fn step(&self, step: Step, fault: Fault) -> (Answer, Model) {
         if !self.is_well_formed(fault) {
-            return Err(1);
+            return self.refused(1);
         }
         match step {
             Step::BeginRead(c) => self.begin(c, Kind::Read, 0),
@@ -177,41 +254,51 @@ impl Model {
             Step::Deliver(c, k) => self.deliver(c, k, fault),
             Step::NodeDown(k) => {
                 if k >= self.n {
-                    return Err(5);
+                    return self.refused(5);
                 }
                 if !self.nodes[&k].up {
-                    return Err(9);
+                    return self.refused(9);
                 }
                 let mut next = self.clone();
                 next.nodes.get_mut(&k).unwrap().up = false;
-                Ok((Outcome::Done, next))
+                next.after(Outcome::Done)
             }
             Step::ConsoleDown(c) => {
                 if c >= self.m {
-                    return Err(4);
+                    return self.refused(4);
                 }
                 if self.consoles[&c].state == State::Down {
-                    return Err(6);
+                    return self.refused(6);
                 }
                 let mut next = self.clone();
                 next.consoles.insert(c, at_rest(State::Down));
-                Ok((Outcome::Done, next))
+                next.after(Outcome::Done)
             }
             Step::NodeUp(k) => self.node_up(k, fault),
         }
     }
 
+    /// A step on this board that is refused.
+    fn refused(&self, refusal: u32) -> (Answer, Model) {
+        (Answer::plain(Err(refusal)), self.clone())
+    }
+
+    /// An accepted step that took no reply in and left this board.
+    fn after(self, outcome: Outcome) -> (Answer, Model) {
+        (Answer::plain(Ok(outcome)), self)
+    }
+
     /// The node keeps its tag and value, and the cells stay as they are.
-    fn node_up(&self, k: u32, fault: Fault) -> Result<(Outcome, Model), u32> {
+    fn node_up(&self, k: u32, fault: Fault) -> (Answer, Model) {
         let is_up = self.nodes.get(&k).is_some_and(|node| node.up);
         if fault == UP_BEFORE_NUMBER && is_up {
-            return Err(14);
+            return self.refused(14);
         }
         if k >= self.n {
-            return Err(5);
+            return self.refused(5);
         }
         if fault != UP_TWICE && is_up {
-            return Err(14);
+            return self.refused(14);
         }
         let mut next = self.clone();
         next.nodes.get_mut(&k).unwrap().up = true;
@@ -222,17 +309,17 @@ impl Model {
             let goes_to_node = |frame: &Frame| matches!(frame, Frame::Ask | Frame::Put(..));
             next.cells.retain(|(_, j), frame| *j != k || !goes_to_node(frame));
         }
-        Ok((Outcome::Done, next))
+        next.after(Outcome::Done)
     }
 
-    fn begin(&self, c: u32, kind: Kind, wanted: u32) -> Result<(Outcome, Model), u32> {
+    fn begin(&self, c: u32, kind: Kind, wanted: u32) -> (Answer, Model) {
         if c >= self.m {
-            return Err(4);
+            return self.refused(4);
         }
         match self.consoles[&c].state {
-            State::Down => return Err(6),
+            State::Down => return self.refused(6),
             State::Idle => {}
-            _ => return Err(7),
+            _ => return self.refused(7),
         }
         let mut next = self.clone();
         next.consoles.insert(
@@ -243,7 +330,7 @@ impl Model {
             },
         );
         next.send_all(c, Frame::Ask);
-        Ok((Outcome::Done, next))
+        next.after(Outcome::Done)
     }
 
     fn send_all(&mut self, c: u32, frame: Frame) {
@@ -252,24 +339,24 @@ impl Model {
         }
     }
 
-    fn deliver(&self, c: u32, k: u32, fault: Fault) -> Result<(Outcome, Model), u32> {
+    fn deliver(&self, c: u32, k: u32, fault: Fault) -> (Answer, Model) {
         if c >= self.m {
-            return Err(4);
+            return self.refused(4);
         }
         if k >= self.n {
-            return Err(5);
+            return self.refused(5);
         }
         let Some(frame) = self.cells.get(&(c, k)).copied() else {
-            return Err(8);
+            return self.refused(8);
         };
         let mut next = self.clone();
         next.cells.remove(&(c, k));
         match frame {
-            Frame::Ask | Frame::Put(..) if !self.nodes[&k].up => Err(9),
+            Frame::Ask | Frame::Put(..) if !self.nodes[&k].up => self.refused(9),
             Frame::Ask => {
                 let node = &self.nodes[&k];
                 next.cells.insert((c, k), Frame::Reply(node.tag, node.value));
-                Ok((Outcome::Handed, next))
+                next.after(Outcome::Handed)
             }
             Frame::Put(tag, value) => {
                 let node = next.nodes.get_mut(&k).unwrap();
@@ -283,29 +370,40 @@ impl Model {
                     node.value = value;
                 }
                 next.cells.insert((c, k), Frame::Ack);
-                Ok((Outcome::Handed, next))
+                next.after(Outcome::Handed)
             }
-            Frame::Reply(tag, value) => next.hear_reply(c, k, tag, value, fault),
-            Frame::Ack => Ok(next.hear_ack(c, k, fault)),
+            Frame::Reply(tag, value) => self.hear_reply(next, c, k, (tag, value), fault),
+            Frame::Ack => next.hear_ack(c, k, fault),
         }
     }
 
-    fn hear_reply(mut self, c: u32, k: u32, tag: Tag, value: u32, fault: Fault) -> Result<(Outcome, Model), u32> {
-        let q = self.majority();
-        let x = self.consoles.get_mut(&c).unwrap();
-        let State::Asking(kind) = x.state else {
-            return Ok((Outcome::Discarded, self));
+    /// The console hears a reply that is gone from the next board's cell.
+    fn hear_reply(&self, mut next: Model, c: u32, k: u32, (tag, value): (Tag, u32), fault: Fault) -> (Answer, Model) {
+        let x = next.consoles.get_mut(&c).unwrap();
+        let kind = match x.state {
+            State::Asking(kind) if !x.answered.contains(&k) => kind,
+            _ if fault == DISCARDED_COMPARED => {
+                let (outcome, compared) = (Ok(Outcome::Discarded), Compared::of(tag, x.best));
+                return (Answer { outcome, compared }, next);
+            }
+            _ => return next.after(Outcome::Discarded),
         };
-        if !x.answered.insert(k) {
-            return Ok((Outcome::Discarded, self));
+        let compared = x.take_reply(k, tag, value, fault);
+        let outcome = if x.answered.len() < self.majority() {
+            Ok(Outcome::Heard)
+        } else {
+            next.turn(c, kind, fault)
+        };
+        match outcome {
+            Err(refusal) if fault != REFUSED_COMPARED => self.refused(refusal),
+            Err(_) => (Answer { outcome, compared }, self.clone()),
+            Ok(_) => (Answer { outcome, compared }, next),
         }
-        if tag > x.best {
-            x.best = tag;
-            x.value = value;
-        }
-        if x.answered.len() < q {
-            return Ok((Outcome::Heard, self));
-        }
+    }
+
+    /// The console has heard a majority.
+    fn turn(&mut self, c: u32, kind: Kind, fault: Fault) -> Result<Outcome, u32> {
+        let x = self.consoles.get_mut(&c).unwrap();
         if kind == Kind::Write {
             if x.best.0 >= MAX_TS {
                 return Err(10);
@@ -319,31 +417,34 @@ impl Model {
         if fault == READ_UNTOLD && kind == Kind::Read {
             let (best, value) = (x.best, x.value);
             *x = at_rest(State::Idle);
-            return Ok((Outcome::Finished(best, value), self));
+            return Ok(Outcome::Finished(best, value));
         }
         if fault != SET_KEPT {
             x.answered.clear();
         }
+        if fault != MARK_KEPT_AT_TURN {
+            x.alike = false;
+        }
         x.state = State::Telling(kind);
         let put = Frame::Put(x.best, x.value);
         self.send_all(c, put);
-        Ok((Outcome::Turned, self))
+        Ok(Outcome::Turned)
     }
 
-    fn hear_ack(mut self, c: u32, k: u32, fault: Fault) -> (Outcome, Model) {
+    fn hear_ack(mut self, c: u32, k: u32, fault: Fault) -> (Answer, Model) {
         let q = self.majority();
         let x = self.consoles.get_mut(&c).unwrap();
         if !matches!(x.state, State::Telling(_)) || !x.answered.insert(k) {
-            return (Outcome::Discarded, self);
+            return self.after(Outcome::Discarded);
         }
         if x.answered.len() < q {
-            return (Outcome::Heard, self);
+            return self.after(Outcome::Heard);
         }
         let finished = Outcome::Finished(x.best, x.value);
         *x = at_rest(State::Idle);
         if fault == CELLS_CLEARED {
             self.cells.retain(|(d, _), _| *d != c);
         }
-        (finished, self)
+        self.after(finished)
     }
 }

@@ -1,6 +1,7 @@
 //! Demand 3's three rules, held to a run of the library by its steps and their answers alone: the progress rule with Paper 2's
 //! majority after each accepted step, the delivery bound at each delivery, the freshness rule at each finish.
-use crate::model::{self, Fault, Outcome, Step, Tag};
+use crate::model::{self, Answer, Compared, Fault, Outcome, Step, Tag};
+use crate::words::place_of_mark;
 use hatukeno::{Board, Refusal};
 use std::collections::{BTreeMap, BTreeSet};
 use std::process::exit;
@@ -25,6 +26,35 @@ pub struct Counts {
     pub again: u64,
     /// Node downs and node ups that were refused because the node was so already.
     pub twice: u64,
+    /// Deliveries that said lower, same and higher.
+    pub lower: u64,
+    pub same: u64,
+    pub higher: u64,
+    /// Replies taken in that set the mark, kept it on, cleared it by a differing tag, and cleared it by the turn.
+    pub set: u64,
+    pub kept: u64,
+    pub cleared: u64,
+    pub turned: u64,
+}
+
+impl Counts {
+    /// A delivery to this console or for it, from one board to the next.
+    fn add_delivery(&mut self, c: u32, answer: Answer, from: &Board, to: &Board) {
+        match answer.compared {
+            Compared::None => return,
+            Compared::Lower => self.lower += 1,
+            Compared::Same => self.same += 1,
+            Compared::Higher => self.higher += 1,
+        }
+        let is_on = |board: &Board| board.words()[place_of_mark(c)] != 0;
+        match (is_on(from), is_on(to)) {
+            (false, true) => self.set += 1,
+            (true, true) => self.kept += 1,
+            (true, false) if answer.outcome == Ok(Outcome::Heard) => self.cleared += 1,
+            (true, false) => self.turned += 1,
+            (false, false) => {}
+        }
+    }
 }
 
 /// An open operation: the accepted deliveries since its begin, and the highest final tag before it.
@@ -55,8 +85,11 @@ impl Run {
     }
 
     /// Takes in a step with its answer, from one board of the library to the next. If a rule is broken, that ends the program.
-    pub fn take(&mut self, step: Step, answer: Result<Outcome, u32>, from: &Board, to: &Board, counts: &mut Counts) {
-        match (step, answer) {
+    pub fn take(&mut self, step: Step, answer: Answer, from: &Board, to: &Board, counts: &mut Counts) {
+        if let Step::Deliver(c, _) = step {
+            counts.add_delivery(c, answer, from, to);
+        }
+        match (step, answer.outcome) {
             (_, Ok(outcome)) => self.accept(step, outcome, from, to, counts),
             (Step::NodeDown(_), Err(9)) | (Step::NodeUp(_), Err(14)) => counts.twice += 1,
             _ => {}

@@ -28,7 +28,7 @@ pub const SMALL_BOARD_TAKEN: Fault = rules::LAST_FAULT + 13;
 pub const NODE_UP_UNKNOWN: Fault = rules::LAST_FAULT + 14;
 pub const LAST_FAULT: Fault = NODE_UP_UNKNOWN;
 
-/// What a line is answered: the outcome, or the refusal.
+/// What a line is answered: the outcome, or the refusal. Paper 3 leaves lines as they are: how a reply compared is not in them.
 pub type Answer = Result<Outcome, u32>;
 
 /// A line and what ended it: CR LF, LF, or nothing at the end of the input.
@@ -158,9 +158,9 @@ fn take(board: &mut Model, [verb, first, second]: [u32; 3], fault: Fault) -> Ans
         6 if fault != NODE_UP_UNKNOWN => Step::NodeUp(first),
         _ => return Err(UNKNOWN_VERB),
     };
-    let (outcome, next) = board.step(step, fault)?;
+    let (answer, next) = board.step(step, fault);
     *board = next;
-    Ok(outcome)
+    answer.outcome
 }
 
 fn fresh(board: &mut Model, n: u32, m: u32, fault: Fault) -> Answer {

@@ -1,9 +1,14 @@
-//! The model's board in the library's 230 words, and back: n and m, then four words for a node (up, ts, console, value), six
-//! for a console (state, wanted, answered, ts, console, value), four for a cell (frame, ts, console, value).
+//! The model's board in the library's 238 words, and back: n and m, then four words for a node (up, ts, console, value), seven
+//! for a console (state, wanted, answered, ts, console, value, mark), four for a cell (frame, ts, console, value).
 use crate::model::{Console, Frame, Kind, Model, Node, State, Tag};
 use hatukeno::BOARD_WORDS;
 
 pub type Words = [u32; BOARD_WORDS];
+
+/// Where the word of a console's mark is; the mark is off only at 0.
+pub fn place_of_mark(c: u32) -> usize {
+    22 + 7 * c as usize + 6
+}
 
 fn tag(w: &[u32]) -> Tag {
     (u64::from(w[0]), u64::from(w[1]))
@@ -28,6 +33,7 @@ pub fn read(w: &Words) -> Model {
         answered: (0..8).filter(|k| w[2] / 2u32.pow(*k) % 2 == 1).collect(),
         best: tag(&w[3..]),
         value: w[5],
+        alike: w[6] != 0,
     };
     let frame = |w: &[u32]| match w[0] {
         0 => None,
@@ -40,9 +46,9 @@ pub fn read(w: &Words) -> Model {
         n: w[0],
         m: w[1],
         nodes: (0..).zip(w[2..22].chunks(4).map(node)).collect(),
-        consoles: (0..).zip(w[22..70].chunks(6).map(console)).collect(),
+        consoles: (0..).zip(w[22..78].chunks(7).map(console)).collect(),
         cells: (0..)
-            .zip(w[70..].chunks(4))
+            .zip(w[78..].chunks(4))
             .filter_map(|(i, w)| Some(((i / 5, i % 5), frame(w)?)))
             .collect(),
     }
@@ -68,11 +74,11 @@ pub fn write(b: &Model) -> Words {
             State::Down => 5,
         };
         let answered = x.answered.iter().map(|k| 2u32.pow(*k)).sum();
-        let p = 22 + 6 * *c as usize;
-        w[p..p + 6].copy_from_slice(&[state, x.wanted, answered, ts(x.best), of(x.best), x.value]);
+        let p = 22 + 7 * *c as usize;
+        w[p..p + 7].copy_from_slice(&[state, x.wanted, answered, ts(x.best), of(x.best), x.value, u32::from(x.alike)]);
     }
     for ((c, k), f) in &b.cells {
-        let p = 70 + 4 * (*c * 5 + *k) as usize;
+        let p = 78 + 4 * (*c * 5 + *k) as usize;
         let four = match f {
             Frame::Ask => [1, 0, 0, 0],
             Frame::Reply(t, v) => [2, ts(*t), of(*t), *v],
