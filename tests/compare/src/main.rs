@@ -8,6 +8,7 @@
 mod chance;
 mod drawing;
 mod known;
+mod marks;
 mod model;
 mod rules;
 mod schedule;
@@ -16,6 +17,7 @@ mod words;
 
 use chance::Chance;
 use hatukeno::{Board, Refusal, BOARD_WORDS};
+use marks::Marks;
 use model::{Answer, Compared, Fault, Model, Outcome, Step};
 use rules::{Counts, Run};
 use std::path::PathBuf;
@@ -379,6 +381,7 @@ struct Seen {
     counts: Vec<Counts>,
     /// Deliveries refused with 10 in the runs beside the last timestamp.
     without_next: u64,
+    marks: Marks,
     damaged: Damaged,
 }
 
@@ -394,6 +397,7 @@ impl Seen {
             "and runs beside the last timestamp, {} of their deliveries refused with 10",
             self.without_next
         );
+        self.marks.print();
         print_node_ups(&self.counts);
         print_replies(&self.counts);
     }
@@ -404,6 +408,8 @@ impl Seen {
             "node ups"
         } else if self.steps > 0 && !shows_replies(&self.counts) {
             "replies"
+        } else if !self.marks.shows_all() {
+            "the mark"
         } else if self.without_next == 0 {
             "refusal 10"
         } else {
@@ -430,6 +436,7 @@ fn library(steps: u64, boards: u64, seed: u64, fault: Fault) {
         steps: 0,
         counts: vec![Counts::default(); 40],
         without_next: 0,
+        marks: Marks::default(),
         damaged: Damaged::default(),
     };
     let mut crashes = true;
@@ -442,6 +449,7 @@ fn library(steps: u64, boards: u64, seed: u64, fault: Fault) {
     }
     for (n, m) in sizes {
         seen.without_next += late(n, m, &mut chance, fault);
+        seen.marks.draw(n, m, &mut chance, fault);
         swept(n, m, &mut chance, fault, &mut seen.damaged);
     }
     while seen.damaged.ill < boards {

@@ -1,0 +1,166 @@
+//! Paper 3's rule for the mark, clause by clause: boards on which one console's mark is wrong and all else is as a run left it, and
+//! beside each the same board with the mark put right.
+use crate::chance::Chance;
+use crate::model::{Console, Fault, State, Step};
+use crate::words::{self, place_of_mark, Words};
+use crate::{both, in_list, listed, put, some_board};
+use hatukeno::{Board, Refusal};
+use std::process::exit;
+
+/// On each size boards are drawn, fewer than so many steps into a run, until so many are tried for each place; and then so many
+/// are drawn in vain before the program ends.
+const STEPS: u32 = 300;
+const OF_EACH: u64 = 10;
+const DRAWN: u32 = 100_000;
+
+/// Where a mark stands: the paper's five clauses, and the case that they leave open.
+#[derive(Clone, Copy)]
+enum Place {
+    Telling,
+    Idle,
+    Down,
+    NoneAnswered,
+    OneAnswered,
+    /// Asking with two answers: on and off are both well formed.
+    TwoOn,
+    TwoOff,
+}
+
+/// In the order above, each with the mark that is tried.
+const PLACES: [(Place, &str); 7] = [
+    (Place::Telling, "on in telling"),
+    (Place::Idle, "on in idle"),
+    (Place::Down, "on in down"),
+    (Place::NoneAnswered, "on with nothing answered"),
+    (Place::OneAnswered, "off at one answer"),
+    (Place::TwoOn, "on"),
+    (Place::TwoOff, "off"),
+];
+/// The first of them are what a board can break.
+const CLAUSES: usize = 5;
+
+fn place(x: &Console) -> Place {
+    match (x.state, x.answered.len()) {
+        (State::Telling(_), _) => Place::Telling,
+        (State::Idle, _) => Place::Idle,
+        (State::Down, _) => Place::Down,
+        (State::Asking(_), 0) => Place::NoneAnswered,
+        (State::Asking(_), 1) => Place::OneAnswered,
+        (State::Asking(_), _) if x.alike => Place::TwoOn,
+        (State::Asking(_), _) => Place::TwoOff,
+    }
+}
+
+/// Whether a board of n nodes can have a console there: fewer than a majority have answered.
+fn is_there(place: Place, n: u32) -> bool {
+    match place {
+        Place::Telling | Place::Idle | Place::Down | Place::NoneAnswered => true,
+        Place::OneAnswered => n / 2 + 1 > 1,
+        Place::TwoOn | Place::TwoOff => n / 2 + 1 > 2,
+    }
+}
+
+/// How many boards were tried for each place.
+#[derive(Default)]
+pub struct Marks {
+    tried: [u64; PLACES.len()],
+}
+
+impl Marks {
+    /// Draws boards of this size until there are enough for each place that there is on it.
+    pub fn draw(&mut self, n: u32, m: u32, chance: &mut Chance, fault: Fault) {
+        let mut here = Marks::default();
+        for _ in 0..DRAWN {
+            if here.has_all(n) {
+                break;
+            }
+            let words = some_board(n, m, STEPS, chance);
+            for c in 0..m {
+                here.try_console(words, c, chance, fault);
+            }
+        }
+        if !here.has_all(n) {
+            println!("n = {n}, m = {m}: too few boards for the mark, {:?}", here.tried);
+            exit(1);
+        }
+        for (sum, tried) in self.tried.iter_mut().zip(here.tried) {
+            *sum += tried;
+        }
+    }
+
+    fn has_all(&self, n: u32) -> bool {
+        let enough = |((place, _), tried): (&(Place, &str), &u64)| *tried >= OF_EACH || !is_there(*place, n);
+        PLACES.iter().zip(&self.tried).all(enough)
+    }
+
+    /// Tries the board with this console's mark on and with it off, unless there are enough such boards.
+    fn try_console(&mut self, words: Words, c: u32, chance: &mut Chance, fault: Fault) {
+        let here = place(&words::read(&words).consoles[&c]);
+        let tried = &mut self.tried[here as usize];
+        if *tried == OF_EACH {
+            return;
+        }
+        *tried += 1;
+        let any_on = [1, 1, 2, 255, 256, u32::MAX][chance.below(6) as usize];
+        for mark in [0, any_on] {
+            let mut words = words;
+            words[place_of_mark(c)] = mark;
+            let is_good = match here {
+                Place::Telling | Place::Idle | Place::Down | Place::NoneAnswered => mark == 0,
+                Place::OneAnswered => mark != 0,
+                Place::TwoOn | Place::TwoOff => true,
+            };
+            try_board(words, c, is_good, chance, fault);
+        }
+    }
+
+    pub fn print(&self) {
+        let each: Vec<String> = PLACES
+            .iter()
+            .zip(self.tried)
+            .map(|((_, name), tried)| format!("{name} {tried}"))
+            .collect();
+        let (wrong, right) = each.split_at(CLAUSES);
+        println!(
+            "boards with one mark wrong, each refused with 1 by every step, and not with the mark put right: {}",
+            wrong.join(", ")
+        );
+        println!(
+            "boards with two answers of asking, not refused with 1 with either mark, drawn with it: {}",
+            right.join(", ")
+        );
+    }
+
+    /// Whether every clause was broken, and two answers had the mark on and off.
+    pub fn shows_all(&self) -> bool {
+        self.tried.iter().all(|tried| *tried > 0)
+    }
+}
+
+/// Every kind of step on the board, each from there, and all of them as one list: refused with 1 if the board is not good, and
+/// else not, and as the model answers.
+fn try_board(words: Words, c: u32, is_good: bool, chance: &mut Chance, fault: Fault) {
+    let model = words::read(&words);
+    let k = chance.below(model.n);
+    let steps = [
+        Step::BeginRead(c),
+        Step::BeginWrite(c, 7),
+        Step::Deliver(c, k),
+        Step::NodeDown(k),
+        Step::ConsoleDown(c),
+        Step::NodeUp(k),
+    ];
+    let board = Board::from_words(words);
+    for step in steps {
+        let said = put(&mut board.clone(), step);
+        if (said == Err(Refusal(1))) == is_good {
+            println!("{step:?} answered {said:?} where console {c}'s mark is {}", words[place_of_mark(c)]);
+            println!("the board is {model:?}");
+            exit(1);
+        }
+        both(&mut board.clone(), &mut model.clone(), step, fault);
+    }
+    let (mut last, mut next) = (board.clone(), model);
+    let answers = steps.map(|step| both(&mut last, &mut next, step, fault));
+    listed(board, &steps.map(in_list), &answers, &last);
+}
