@@ -34,8 +34,8 @@
  *   2 on     four for each of 5 nodes: up (0 is down), ts, console, value
  *   22 on    seven for each of 8 consoles: state (0 idle, 1 asking to read, 2 asking to write, 3 telling to read, 4 telling to
  *            write, from 5 on down), wanted value, answered set (bit k is node k; bits from 8 on are passed over), best ts,
- *            best console, best value, the mark 'all alike so far' (0 is off; it is on from an asking's first answer, as long as
- *            its answers carry one tag)
+ *            best console, best value, the mark 'all alike so far' (0 is off; it is on from the first answer of an asking
+ *            while every answer has carried one tag)
  *   78 on    four for each of 40 cells, at console times 5 plus node: frame (0 nothing, 1 ask, 2 reply, 3 put, from 4 on ack),
  *            ts, console, value; the last three are passed over but for a reply and a put
  *

@@ -219,8 +219,8 @@ impl Board {
     /// - from 2 on, four for each of 5 nodes: up (0 is down), ts, console, value
     /// - from 22 on, seven for each of 8 consoles: state (0 idle, 1 asking to read, 2 asking to write, 3 telling to read, 4
     ///   telling to write, from 5 on down), wanted value, answered set (bit k is node k; bits from 8 on are passed over), best
-    ///   ts, best console, best value, the mark 'all alike so far' (0 is off; it is on from an asking's first answer, as long as
-    ///   its answers carry one tag)
+    ///   ts, best console, best value, the mark 'all alike so far' (0 is off; it is on from the first answer of an asking while
+    ///   every answer has carried one tag)
     /// - from 78 on, four for each of 40 cells, at console times 5 plus node: frame (0 nothing, 1 ask, 2 reply, 3 put, from 4 on
     ///   ack), ts, console, value; the last three are passed over but for a reply and a put
     ///
@@ -307,6 +307,15 @@ mod tests {
         assert_eq!(board.deliver(0, 0), Err(Refusal(1)));
         assert_eq!(board.node_down(0), Err(Refusal(1)));
         assert_eq!(board.node_up(0), Err(Refusal(1)));
+        assert_eq!(board.words(), &words);
+    }
+
+    #[test]
+    fn a_mark_that_is_on_at_an_idle_console_is_refused_and_kept() {
+        let mut words = *Board::fresh(3, 2).unwrap().words();
+        words[22 + 6] = 1;
+        let mut board = Board::from_words(words);
+        assert_eq!(board.begin_read(1), Err(Refusal(1)));
         assert_eq!(board.words(), &words);
     }
 
