@@ -21,13 +21,13 @@ pub struct Board {
     pub cells: [Cell; parts::CELLS],
 }
 
-// What a step answers: the outcome, the number of the question that refused it (0: none did), how the tag of a reply that it
-// took in compared with the old best, and the next board.
+// What a step answers: the outcome, the number of the question that refused it (0: none did), the next board, and how the tag
+// of a reply that it took in compared with the old best.
 pub struct Answer {
     pub outcome: Outcome,
     pub refusal: u32,
-    pub compared: Compared,
     pub board: Board,
+    pub compared: Compared,
 }
 
 mod answers;

@@ -64,15 +64,15 @@ pub enum State {
 }
 
 // Document 01's console: a client of the register. 'answered' has one bit for each node that has answered in this
-// phase; 'best' and 'value' are the greatest tag heard or chosen, and its value. 'alike' is document 02's mark, all alike so
-// far: while it is on, every answer of this asking has carried the same tag.
+// phase; 'alike' is document 02's mark, all alike so far: while it is on, every answer of this asking has carried the same tag;
+// 'best' and 'value' are the greatest tag heard or chosen, and its value.
 pub struct Console {
     pub state: State,
     pub wanted: u32,
     pub answered: u8,
+    pub alike: bool,
     pub best: Tag,
     pub value: u32,
-    pub alike: bool,
 }
 
 // What a board is made with: document 01's n, the nodes, and m, the consoles.
