@@ -11,13 +11,13 @@ use Rattle.board.specs.declared.Answer.{Answer}
 
 -- ---- answers
 
--- an accepted delivery that takes a reply in, whose tag compared so (document 02, Paper 3)
-abbrev pub answerTo : Compared → Outcome → Board → Answer
-answerTo w o b = record { outcome = o; refusal = 0; compared = w; board = b }
+-- an accepted step, and how the reply that it took in compared (document 02, Paper 3)
+abbrev pub answerWith : Compared → Outcome → Board → Answer
+answerWith how o b = record { outcome = o; refusal = 0; compared = how; board = b }
 
 -- an accepted step 'that takes no reply in, says none'
 abbrev pub answer : Outcome → Board → Answer
-answer o b = answerTo None o b
+answer o b = answerWith None o b
 
 -- 'The first no gives the refusal with that number; the board comes back unchanged, with no outcome, tag and value 0'; 'a
 -- refused delivery .. says none'

@@ -20,7 +20,7 @@ use Rattle.board.specs.declared.Board.{Board}
 use Rattle.parts.specs.declared.Outcome.the-variants.{Handed, Heard, Turned, Finished, Discarded}
 use Rattle.board.specs.declared.Answer.{Answer}
 use Rattle.board.specs.Boards.{nodeAt, consoleAt, frameAt, withNode, withConsole, withFrame, withRow}
-use Rattle.board.specs.Answers.{answerTo, answer, guarded}
+use Rattle.board.specs.Answers.{answerWith, answer, guarded}
 use Rattle.board.specs.Questions.{is-well-formed, has-console, has-node, holds-frame, node-is-up, has-next-ts}
 
 -- a frame that goes to the node: 'nothing is delivered to' a node that is down
@@ -39,9 +39,9 @@ onPut b c k t v = toNode b k (answer Handed (withNode (withFrame b c k Ack) k (t
 unfoldable pub discards : Board → ℕ → ℕ → Answer
 discards b c k = answer Discarded (withFrame b c k Nothing)
 
--- 'the cell empties', console c becomes x, and 'the outcome is heard'
+-- 'the cell empties', console c becomes x, and 'the outcome is heard'; how a reply compared, or none of an ack
 unfoldable pub heard : Compared → Board → ℕ → ℕ → Console → Answer
-heard w b c k x = answerTo w Heard (withConsole (withFrame b c k Nothing) c x)
+heard how b c k x = answerWith how Heard (withConsole (withFrame b c k Nothing) c x)
 
 -- 'the console becomes telling .. all n cells become put with that tag and value'; x is the console with the reply taken in
 unfoldable pub turned : Board → ℕ → Console → Board
@@ -53,7 +53,7 @@ unfoldable pub replied : Board → ℕ → ℕ → TakenIn → Answer
 replied b c k r =
     cond (ltb (size (r .console .answered)) (askSize (b .setup)))
     (heard (r .compared) b c k (r .console))
-    (guarded (has-next-ts (r .console) ∷ []) b (answerTo (r .compared) Turned (turned b c (r .console))))
+    (guarded (has-next-ts (r .console) ∷ []) b (answerWith (r .compared) Turned (turned b c (r .console))))
 
 -- Reply, 'at an asking console that has no answer yet from this node'
 unfoldable pub onReply : Board → ℕ → ℕ → Tag → ℕ → Answer

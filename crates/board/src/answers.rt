@@ -1,15 +1,15 @@
 // The ways to answer a step.
 ghost use mathlib.Core.Path.{_≡_};
-ghost use Rattle.board.specs.Answers.{answerTo, answer, refuse};
+ghost use Rattle.board.specs.Answers.{answerWith, answer, refuse};
 use crate::Answer;
 use crate::Board;
 use parts::Compared;
 use parts::Outcome;
 
 impl Answer {
-    // A delivery that took a reply in, with how its tag compared and the next board.
-    pub(crate) fn accepted_reply(compared: Compared, outcome: Outcome, board: Board) -> Answer
-        ensures { λ r. ⌜ r ≡ answerTo compared outcome board ⌝ }
+    // A step that was done, with how the reply that it took in compared (none: it took none in) and the next board.
+    pub(crate) fn accepted_with(compared: Compared, outcome: Outcome, board: Board) -> Answer
+        ensures { λ r. ⌜ r ≡ answerWith compared outcome board ⌝ }
     {
         Answer {
             outcome: outcome,
@@ -23,7 +23,7 @@ impl Answer {
     pub(crate) fn accepted(outcome: Outcome, board: Board) -> Answer
         ensures { λ r. ⌜ r ≡ answer outcome board ⌝ }
     {
-        Answer::accepted_reply(Compared::None, outcome, board)
+        Answer::accepted_with(Compared::None, outcome, board)
     }
 
     // A step that is refused with this number, with the board to hand back.

@@ -129,7 +129,7 @@ fn take_reply(b: Board, c: ConsoleId, k: NodeId, reply: TakenIn) -> Answer
     if !has_next(x) {
         return Answer::refused(TS_USED_UP, b);
     }
-    Answer::accepted_reply(how, Outcome::Turned, turned_at(b, c, x))
+    Answer::accepted_with(how, Outcome::Turned, turned_at(b, c, x))
 }
 
 // Question 10: whether a write's timestamp can grow; x is the console with the reply taken in.
@@ -186,7 +186,7 @@ fn hear(how: Compared, b: Board, c: ConsoleId, k: NodeId, x: Console) -> Answer
     requires { ⌜ InRange b (c .0) (k .0) ⌝ }
     ensures { λ r. ⌜ r ≡ heard how b (c .0) (k .0) x ⌝ }
 {
-    Answer::accepted_reply(
+    Answer::accepted_with(
         how,
         Outcome::Heard,
         b.with_frame(c, k, Frame::Nothing).with_console(c, x),

@@ -42,7 +42,7 @@ awaits p x k = p (x .state) && not (member (x .answered) k)
 -- the mark 'all alike so far', 'set by the first answer of asking and cleared by any differing tag': once the reply that
 -- compared so is taken in
 unfoldable pub stillAlike : Console → Compared → Bool
-stillAlike x w = eqb (x .answered) 0 || x .alike && isSame w
+stillAlike x how = eqb (x .answered) 0 || x .alike && isSame how
 
 -- Reply: 'the node joins the answered set, and best becomes the greater of best and the reply; on equal tags best keeps its value'
 unfoldable pub hears : Console → ℕ → Tag → ℕ → Console

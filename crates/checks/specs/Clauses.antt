@@ -100,6 +100,7 @@ markOk x (Asking w) =
 
 unfoldable pub consoleOk : Setup → ℕ → Console → Bool
 consoleOk σ c x =
+    -- of every console: those beyond m are idle
     markOk x (x .state)
     && cond (ltb c (σ .m)) (tagOk σ (x .best) (x .value) && stateOk σ x (x .state))
     -- 'consoles .. beyond .. m are .. idle'

@@ -120,7 +120,7 @@ tells-mark c x (Asking w) e = absurd (contra e refl)
 tells-mark c x (Telling w) e = refl
 tells-mark c x Down e = refl
 
--- after a reply there is an answer, and the only one is the first, which sets it
+-- after a reply there is an answer, and if it is the only one it is the first, which sets the mark
 hears-mark : (x : Console) (k : ℕ) (u : Tag) (v : ℕ) (s : State) → x .answered < 32 → k < 5 → member (x .answered) k ≡ false → isAsking s ≡ true → markOk (hears x k u v) s ≡ true
 unfolding markOk hears stillAlike
 hears-mark x k u v Idle h l un e = absurd (contra e refl)

@@ -33,8 +33,8 @@ Pairs σ b l = All (λ y. All (λ x. PairOk σ b x y) l) l
 pub record Inv (σ : Setup) (r : Run) : Type 0 where
   -- The board is well formed, every tag's timestamp is at most the writes that have turned, and a waiting console's row
   -- holds only frames of its phase: begin and the turn overwrite all n cells, and a reply copies its node's tag, which
-  -- never falls. While an asking console's mark is on, every node that has answered it holds a tag no lower than its best:
-  -- each answer so far carried best's tag.
+  -- never falls. While an asking console's mark is on, every node that has answered it holds a tag no lower than its best,
+  -- since the mark stays on only for a reply with best's tag.
   pub ok : BoardOk (Known σ (r .ops)) σ (r .board)
   -- Every operation is in order by itself. An open one has spent the weights of its row and what the earlier phase took at
   -- most; a complete one's tag is held by a telling group, since that many nodes acknowledged it and no tag falls.

@@ -15,7 +15,7 @@ use Rattle.parts.specs.declared.Outcome.the-variants.{Heard, Turned}
 use Rattle.parts.specs.declared.Setup.{Setup}
 use Rattle.parts.specs.declared.Tag.{Tag}
 use Rattle.changes.specs.Changes.{hears, nextTag, tells}
-use Rattle.board.specs.Answers.{answerTo}
+use Rattle.board.specs.Answers.{answerWith}
 use Rattle.board.specs.Boards.{consoleAt, frameAt, nodeAt, withConsole, withFrame, withRow}
 use Rattle.board.specs.Deliver.{turned}
 use Rattle.board.specs.declared.Board.{Board}
@@ -62,7 +62,7 @@ module _ {K : TagKind} {σ : Setup} {b : Board} {c k : ℕ} (d : Delivery K σ b
 
   -- ---- heard
 
-  pub hear-effect : size (insert (consoleAt b c .answered) k) < askSize (b .setup) → Effect K σ c b (answerTo (compared u (consoleAt b c .best)) Heard (withConsole (withFrame b c k Nothing) c x₁))
+  pub hear-effect : size (insert (consoleAt b c .answered) k) < askSize (b .setup) → Effect K σ c b (answerWith (compared u (consoleAt b c .best)) Heard (withConsole (withFrame b c k Nothing) c x₁))
   unfolding hears
   hear-effect few = record {
     ok = console-ok d x₁ heard-kind (hears-ok σ (consoleAt b c) k u v (five d) (d .k-n) p was-waiting un (omega (arith, few, ap askSize (d .ok .shape .setup-is))))
@@ -142,7 +142,7 @@ module _ {K : TagKind} {σ : Setup} {b : Board} {c k : ℕ} (d : Delivery K σ b
     unfolding nodeAt withConsole withRow turned
     turn-ups j = refl
 
-    pub turn-effect : Effect K σ c b (answerTo (compared u (consoleAt b c .best)) Turned (turned b c x₁))
+    pub turn-effect : Effect K σ c b (answerWith (compared u (consoleAt b c .best)) Turned (turned b c x₁))
     turn-effect = record {
       ok = turn-ok;
       beside = turn-side;

@@ -149,7 +149,7 @@ ask-grow g unasked = unasked
 ask-grow g (replied-with {t = t} h) = replied-with {t = t} (omega arith)
 ask-grow g (had h) = had (λ e. omega (arith, h e))
 
--- the mark and best change, and where the node has answered the mark was on, with the same best
+-- the mark and best change; if the mark is on now and the node has answered, it was on before, with the same best
 ask-older : {alike alike′ : Bool} {best best′ tag : Tag} {a : Bool} {f : Frame} → (a ≡ true → alike′ ≡ true → (alike ≡ true) × (key best′ ≡ key best))
     → AskFrame alike best tag a f → AskFrame alike′ best′ tag a f
 ask-older w unasked = unasked
@@ -220,12 +220,12 @@ best-grows x k u v h i = go (greater u (x .best)) refl
     go false e = omega (arith, greater-false u (x .best) i h e)
 
 -- the mark is on after a reply: then the reply has best's tag, and unless it is the first the mark was on before, with the same
--- best. So while the mark is on every answer so far has carried best's tag
-pub record Alike (x : Console) (k : ℕ) (u : Tag) (v : ℕ) : Type 0 where
-  pub reply-has : key (hears x k u v .best) ≡ key u
-  pub older-have : eqb (x .answered) 0 ≡ false → (x .alike ≡ true) × (key (hears x k u v .best) ≡ key (x .best))
+-- best. By this, answer by answer, every answer so far has carried best's tag while the mark is on
+record Alike (x : Console) (k : ℕ) (u : Tag) (v : ℕ) : Type 0 where
+  reply-has : key (hears x k u v .best) ≡ key u
+  older-have : eqb (x .answered) 0 ≡ false → (x .alike ≡ true) × (key (hears x k u v .best) ≡ key (x .best))
 
-pub all-alike : (x : Console) (k : ℕ) (u : Tag) (v : ℕ) → Small (x .best) → Small u → (eqb (x .answered) 0 ≡ true → key (x .best) ≡ 0)
+all-alike : (x : Console) (k : ℕ) (u : Tag) (v : ℕ) → Small (x .best) → Small u → (eqb (x .answered) 0 ≡ true → key (x .best) ≡ 0)
     → hears x k u v .alike ≡ true → Alike x k u v
 unfolding hears stillAlike
 all-alike x k u v h i zero on = go (eqb (x .answered) 0) refl on

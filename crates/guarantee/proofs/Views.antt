@@ -21,7 +21,7 @@ use Rattle.parts.specs.declared.State.the-variants.{Down, Idle}
 use Rattle.parts.specs.declared.Tag.{Tag}
 use Rattle.checks.specs.Clauses.{consolesAllowed, nodesAllowed}
 use Rattle.changes.specs.Changes.{acked, awaits, hears, rests, taken, takesIn, withUp}
-use Rattle.board.specs.Answers.{Question, answer, answerTo, guarded, refuse}
+use Rattle.board.specs.Answers.{Question, answer, answerWith, guarded, refuse}
 use Rattle.board.specs.Boards.{consoleAt, frameAt, freshBoard, nodeAt, withConsole, withFrame, withNode}
 use Rattle.board.specs.Deliver.{acknowledged, deliver, discards, heard, onAck, onAsk, onFrame, onPut, onReply, replied, toNode, turned}
 use Rattle.board.specs.Questions.{console-is-idle, console-is-up, has-allowed-consoles, has-allowed-nodes, has-console, has-next-ts, has-node, holds-frame, is-well-formed, node-is-down, node-is-up}
@@ -57,11 +57,11 @@ pub data Delivered (b : Board) (c k : ℕ) : Answer → Type 0 where
   put : {u : Tag} {v : ℕ} → frameAt b c k ≡ Put u v → Delivered b c k (answer Handed (withNode (withFrame b c k Ack) k (taken (nodeAt b k) u v)))
   hear : {u : Tag} {v : ℕ} → frameAt b c k ≡ Reply u v → isAsking (consoleAt b c .state) ≡ true → member (consoleAt b c .answered) k ≡ false
       → size (insert (consoleAt b c .answered) k) < askSize (b .setup)
-      → Delivered b c k (answerTo (compared u (consoleAt b c .best)) Heard (withConsole (withFrame b c k Nothing) c (hears (consoleAt b c) k u v)))
+      → Delivered b c k (answerWith (compared u (consoleAt b c .best)) Heard (withConsole (withFrame b c k Nothing) c (hears (consoleAt b c) k u v)))
   turn : {u : Tag} {v : ℕ} → frameAt b c k ≡ Reply u v → isAsking (consoleAt b c .state) ≡ true → member (consoleAt b c .answered) k ≡ false
       → askSize (b .setup) ≤ size (insert (consoleAt b c .answered) k)
       → (writes (consoleAt b c .state) ≡ true → hears (consoleAt b c) k u v .best .ts < maxTs)
-      → Delivered b c k (answerTo (compared u (consoleAt b c .best)) Turned (turned b c (hears (consoleAt b c) k u v)))
+      → Delivered b c k (answerWith (compared u (consoleAt b c .best)) Turned (turned b c (hears (consoleAt b c) k u v)))
   hear-ack : frameAt b c k ≡ Ack → isTelling (consoleAt b c .state) ≡ true → member (consoleAt b c .answered) k ≡ false
       → size (insert (consoleAt b c .answered) k) < tellSize (b .setup)
       → Delivered b c k (answer Heard (withConsole (withFrame b c k Nothing) c (acked (consoleAt b c) k)))

@@ -21,7 +21,7 @@ impl Tag {
         self.console > b.console
     }
 
-    // How this tag compares with the tag best, where is_greater says how they stand.
+    // How this tag compares with the tag best, where both console numbers are below 8.
     pub fn compared_with(self, best: Tag) -> Compared
         ensures { λ r. ⌜ (self .console < maxConsoles → best .console < maxConsoles → r ≡ compared self best) ⌝ }
     {

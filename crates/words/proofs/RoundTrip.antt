@@ -184,7 +184,7 @@ module _ (w : List ℕ) (p a b c d e f g : ℕ) where
   seven-long : length seven ≡ length w
   seven-long = length-set six (p + 6) g ∙ six-long
 
-  -- a word that none of the writes after the first k is at
+  -- a word that the last writes are not at
   after-five : (i : ℕ) → i ≢ p + 6 → i ≢ p + 5 → word seven i ≡ word five i
   after-five i h k = word-beside six (p + 6) g i h ∙ word-beside five (p + 5) f i k
 

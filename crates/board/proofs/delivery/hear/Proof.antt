@@ -11,13 +11,13 @@ with-frame-requires c κs = (within (c .pre) .0, within (c .pre) .1)
 with-console-requires : tie.Need-with-console-requires
 with-console-requires c κs = within (c .before .pre) .0
 
-accepted-reply-requires : tie.Need-accepted-reply-requires
-accepted-reply-requires c κs = search needs
+accepted-with-requires : tie.Need-accepted-with-requires
+accepted-with-requires c κs = search needs
 
 returns : tie.Need-returns
 unfolding heard
-returns c = rw (c .accepted-reply .ensures, c .before .with-console .ensures, c .before .before .with-frame .ensures)
+returns c = rw (c .accepted-with .ensures, c .before .with-console .ensures, c .before .before .with-frame .ensures)
 
 pub hear-spec : {M : Type 1} → statement M
 hear-spec =
-    tie.close (tie.spec with-frame-requires with-console-requires accepted-reply-requires returns)
+    tie.close (tie.spec with-frame-requires with-console-requires accepted-with-requires returns)

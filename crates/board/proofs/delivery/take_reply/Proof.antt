@@ -4,7 +4,7 @@ use borrow.Author.Needs.{needs}
 use borrow.Author.Tests.{lt-ltb, le-ltb, ltb-true}
 use Rattle.board.proofs.AnswersLaws.{guarded-no, guarded-yes, guarded-end}
 use Rattle.board.proofs.WellFormedLaws.{within}
-use Rattle.board.specs.Answers.{answerTo}
+use Rattle.board.specs.Answers.{answerWith}
 use Rattle.board.specs.Deliver.{replied}
 use Rattle.parts.specs.declared.Outcome.the-variants.{Turned}
 use Rattle.parts.proofs.FiniteLaws.{said-no, said-yes, implied}
@@ -37,12 +37,12 @@ returns-2 c = simp (sym (c .before .before .before .before .before .set-size .en
 turned-at-requires : tie.Need-turned-at-requires
 turned-at-requires c κs = ((within (c .before .before .before .before .before .before .pre) .0, within (c .before .before .before .before .before .before .pre) .2), λ w. ltb-true _ _ (implied _ _ (said-yes (c .before .has-next .ensures) (c .if2 .left)) w))
 
-accepted-reply-requires : tie.Need-accepted-reply-requires
-accepted-reply-requires c κs = search needs
+accepted-with-requires : tie.Need-accepted-with-requires
+accepted-with-requires c κs = search needs
 
 returns-3 : tie.Need-returns-3
 unfolding replied
-returns-3 c = simp (sym (c .before .before .before .before .before .before .set-size .ensures), sym (c .before .before .before .before .before .ask-size .ensures), le-ltb _ _ (c .before .before .before .before .if1 .left)) (c .accepted-reply .ensures ∙ ap (answerTo _ Turned) (c .before .turned-at .ensures) ∙ sym (guarded-yes _ _ _ _ (said-yes (c .before .before .before .has-next .ensures) (c .before .before .if2 .left)) ∙ guarded-end _ _))
+returns-3 c = simp (sym (c .before .before .before .before .before .before .set-size .ensures), sym (c .before .before .before .before .before .ask-size .ensures), le-ltb _ _ (c .before .before .before .before .if1 .left)) (c .accepted-with .ensures ∙ ap (answerWith _ Turned) (c .before .turned-at .ensures) ∙ sym (guarded-yes _ _ _ _ (said-yes (c .before .before .before .has-next .ensures) (c .before .before .if2 .left)) ∙ guarded-end _ _))
 
 pub take-reply-spec : {M : Type 1} → statement M
 take-reply-spec =
@@ -56,5 +56,5 @@ take-reply-spec =
     refused-requires
     returns-2
     turned-at-requires
-    accepted-reply-requires
+    accepted-with-requires
     returns-3)
