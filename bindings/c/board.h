@@ -12,8 +12,8 @@
  *              5 there is no such node         10 there is no higher timestamp for the write
  *             14 the node is up
  *   said[2], said[3], said[4]  the tag's ts and console, and the value, if it has finished; else 0
- *   said[5]  how the tag of a reply that was taken in compares with the best the console had before: 1 lower, 2 same,
- *            3 higher; 0 for a refused step and one that takes no reply in
+ *   said[5]  how the tag of a reply that was taken in compares with the best the console had before, (0, 0) for the first
+ *            reply of an asking: 1 lower, 2 same, 3 higher; 0 for a refused step and one that takes no reply in
  *
  * If the step is accepted the next board is written back; if it is refused nothing of the lent board is written.
  *
@@ -39,7 +39,7 @@
  *   78 on    four for each of 40 cells, at console times 5 plus node: frame (0 nothing, 1 ask, 2 reply, 3 put, from 4 on ack),
  *            ts, console, value; the last three are passed over but for a reply and a put
  *
- * and an accepted step writes all of them anew, each number that is passed over as 0. */
+ * and an accepted step writes all of them anew, each number that is passed over as 0, and each up and mark as 0 or 1. */
 #ifndef BOARD_H
 #define BOARD_H
 

@@ -100,8 +100,8 @@ pub enum Outcome {
     Discarded,
 }
 
-/// How the tag of a reply that was taken in compares with the best the console had before; `None` for a step that takes no
-/// reply in.
+/// How the tag of a reply that was taken in compares with the best the console had before, (0, 0) for the first reply of an
+/// asking; `None` for a step that takes no reply in.
 #[derive(Clone, Copy, Debug, PartialEq, Eq)]
 pub enum Compared {
     None,
@@ -224,8 +224,8 @@ impl Board {
     /// - from 78 on, four for each of 40 cells, at console times 5 plus node: frame (0 nothing, 1 ask, 2 reply, 3 put, from 4 on
     ///   ack), ts, console, value; the last three are passed over but for a reply and a put
     ///
-    /// An accepted step writes all words anew, each number that is passed over as 0 and each state and frame as its lowest
-    /// number.
+    /// An accepted step writes all words anew, each number that is passed over as 0, each state and frame as its lowest number,
+    /// and each up and mark as 0 or 1.
     pub fn from_words(words: [u32; BOARD_WORDS]) -> Board {
         Board { words }
     }
@@ -379,6 +379,20 @@ mod tests {
             compared: Compared::None,
         };
         assert_eq!(board.deliver(0, 3), Ok(heard));
+    }
+
+    #[test]
+    fn a_delivery_that_is_refused_says_none() {
+        let mut words = *Board::fresh(1, 1).unwrap().words();
+        words[3] = 4_000_000_000;
+        let mut board = Board::from_words(words);
+        board.begin_write(0, 7).unwrap();
+        board.deliver(0, 0).unwrap();
+        let mut words = board.words;
+        let mut said = [9; ANSWER_WORDS];
+        assert_eq!(unsafe { board_deliver(words.as_mut_ptr(), BOARD_WORDS, said.as_mut_ptr(), ANSWER_WORDS, 0, 0) }, 0);
+        assert_eq!(said, [0, 10, 0, 0, 0, 0]);
+        assert_eq!(words, board.words);
     }
 
     #[test]

@@ -7,8 +7,8 @@ use crate::{both, in_list, listed, put, some_board};
 use hatukeno::{Board, Refusal};
 use std::process::exit;
 
-/// On each size boards are drawn, fewer than so many steps into a run, until so many are tried for each place; and then so many
-/// are drawn in vain before the program ends.
+/// On each size boards are drawn, fewer than STEPS into a run, until OF_EACH are tried for each place; at most DRAWN of them, and
+/// if that does not do the program ends.
 const STEPS: u32 = 300;
 const OF_EACH: u64 = 10;
 const DRAWN: u32 = 100_000;

@@ -217,7 +217,7 @@ impl Model {
             .iter()
             .all(|(k, x)| good(x.tag, x.value) && (*k < self.n || *x == fresh_node()));
         let consoles = self.consoles.iter().all(|(c, x)| {
-            good(x.best, x.value) && self.is_console_good(x) && x.is_mark_good(fault) && (*c < self.m || *x == at_rest(State::Idle))
+            good(x.best, x.value) && self.is_console_good(x) && x.is_mark_good(fault) && (*c < self.m || x.state == State::Idle)
         });
         let cells = self.cells.iter().all(|((c, k), f)| {
             *c < self.m
@@ -232,7 +232,11 @@ impl Model {
 
     fn is_console_good(&self, x: &Console) -> bool {
         match x.state {
-            State::Idle | State::Down => *x == at_rest(x.state),
+            // All fields but the mark, of which is_mark_good speaks.
+            State::Idle | State::Down => {
+                let alike = x.alike;
+                *x == Console { alike, ..at_rest(x.state) }
+            }
             State::Asking(kind) | State::Telling(kind) => {
                 let none_yet = matches!(x.state, State::Asking(_)) && x.answered.is_empty();
                 x.answered.iter().all(|k| *k < self.n)

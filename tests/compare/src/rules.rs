@@ -1,5 +1,6 @@
 //! Demand 3's three rules, held to a run of the library by its steps and their answers alone: the progress rule with Paper 2's
-//! majority after each accepted step, the delivery bound at each delivery, the freshness rule at each finish.
+//! majority after each accepted step, the delivery bound at each delivery, the freshness rule at each finish. And what the runs
+//! show, counted: finishes, node ups, and how replies compared and what they did to the mark.
 use crate::model::{self, Answer, Compared, Fault, Outcome, Step, Tag};
 use crate::words::place_of_mark;
 use hatukeno::{Board, Refusal};
@@ -38,7 +39,7 @@ pub struct Counts {
 }
 
 impl Counts {
-    /// A delivery to this console or for it, from one board to the next.
+    /// A delivery that names this console, from one board to the next.
     fn add_delivery(&mut self, c: u32, answer: Answer, from: &Board, to: &Board) {
         match answer.compared {
             Compared::None => return,
