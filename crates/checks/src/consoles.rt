@@ -67,7 +67,7 @@ fn is_state_ok(setup: Setup, x: Console, s: State) -> bool
     }
 }
 
-// The mark of a console in state s.
+// Whether a console in state s may have its mark as it is.
 fn is_mark_ok(x: Console, s: State) -> bool
     ensures { λ r. ⌜ r ≡ markOk x s ⌝ }
 {

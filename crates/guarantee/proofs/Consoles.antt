@@ -1,7 +1,7 @@
 -- The tests of tags and of consoles: what they give, and that each change of a console passes them and keeps the kind of
 -- its tag.
 use Prim.Native.Nat.{ℕ, _+_, _^_, _≤_, _<_}
-use mathlib.Core.Bool.{Bool, true, false, cond, not, _&&_, _||_}
+use mathlib.Core.Bool.{Bool, true, false, cond, _&&_}
 use mathlib.Core.Path.{refl, sym, subst, _≡_}
 use native.Mathlib.Omega.{arith}
 use borrow.Author.Tests.{ltb-true, eqb-true, eq-eqb, ne-eqb, lt-ltb, le-leb}

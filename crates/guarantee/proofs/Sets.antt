@@ -70,6 +70,7 @@ insert-some-test = refl
 pub insert-some : (a k : ℕ) → a < 32 → k < 5 → eqb (insert a k) 0 ≡ false
 insert-some a k h l = not-true (eqb (insert a k) 0) (every-at (λ k. not (eqb (insert a k) 0)) 5 (every-at (λ a. every 5 (λ k. not (eqb (insert a k) 0))) 32 insert-some-test a h) k l)
 
+-- if k joins a and is alone then, a was empty
 first : ℕ → ℕ → Bool
 first a k = member a k || not (eqb (size (insert a k)) 1) || eqb a 0
 

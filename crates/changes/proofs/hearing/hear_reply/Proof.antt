@@ -3,7 +3,7 @@ use mathlib.Core.Path.{sym, ap, _∙_}
 use borrow.Author.Needs.{needs}
 use Rattle.parts.proofs.TagsLaws.{higher-greater}
 use Rattle.parts.specs.Tags.{isHigher}
-use Rattle.changes.specs.Changes.{stillAlike, hears, takesIn}
+use Rattle.changes.specs.Changes.{hears, takesIn}
 use Rattle.changes.proofs.hearing.hear_reply.Statement.{statement}
 use Rattle.changes.proofs.hearing.hear_reply.Tie as tie
 
