@@ -13,14 +13,19 @@
  *             14 the node is up
  *   said[2], said[3], said[4]  the tag's ts and console, and the value, if it has finished; else 0
  *   said[5]  how the tag of a reply that was taken in compares with the best the console had before, (0, 0) for the first
- *            reply of an asking: 1 lower, 2 same, 3 higher; 0 for a refused step and one that takes no reply in
+ *            reply of an asking: 1 lower, 2 same, 3 higher; 0 for a refused step and one that takes no reply in. A read that
+ *            a reply finishes (release 2) says it of that reply
  *
  * If the step is accepted the next board is written back; if it is refused nothing of the lent board is written.
+ *
+ * A board is made under release 1 (board_fresh) or release 2 (board_fresh_release_2) and keeps it. Under release 2 a read
+ * whose q replies (those of a majority) all carry the same tag finishes at that delivery, without telling; its other cells
+ * stay as they are.
  *
  * board_run puts a whole list of steps to a board, one after the other: STEP_WORDS words for a step, its number (below) and
  * its two numbers in the order in which the step's own call takes them; a second number that the step does not take is
  * passed over. A step whose number none has is refused with 12, on any board. `said` gets ANSWER_WORDS words for each step,
- * and a refused step leaves the board as it was, a refused fresh too.
+ * and a refused step leaves the board as it was, a refused fresh too. STEP_FRESH makes release 1, on a board of release 2 too.
  *
  * A call returns 0 if the steps were put to the board, refused or not. If `words` is shorter than a board it returns 1, if
  * `said` is shorter than the answers it returns 2, if `steps_len` is no multiple of STEP_WORDS it returns 3, and then nothing
@@ -31,22 +36,24 @@
  * a board are
  *
  *   0, 1     n and m
- *   2 on     four for each of 5 nodes: up (0 is down), ts, console, value
- *   22 on    seven for each of 8 consoles: state (0 idle, 1 asking to read, 2 asking to write, 3 telling to read, 4 telling to
+ *   2        the release: 2 is release 2, any other number release 1
+ *   3 on     four for each of 5 nodes: up (0 is down), ts, console, value
+ *   23 on    seven for each of 8 consoles: state (0 idle, 1 asking to read, 2 asking to write, 3 telling to read, 4 telling to
  *            write, from 5 on down), wanted value, answered set (bit k is node k; bits from 8 on are passed over), best ts,
  *            best console, best value, the mark 'all alike so far' (0 is off; it is on from the first answer of an asking
  *            while every answer has carried one tag)
- *   78 on    four for each of 40 cells, at console times 5 plus node: frame (0 nothing, 1 ask, 2 reply, 3 put, from 4 on ack),
+ *   79 on    four for each of 40 cells, at console times 5 plus node: frame (0 nothing, 1 ask, 2 reply, 3 put, from 4 on ack),
  *            ts, console, value; the last three are passed over but for a reply and a put
  *
- * and an accepted step writes all of them anew, each number that is passed over as 0, and each up and mark as 0 or 1. */
+ * and an accepted step writes all of them anew, each number that is passed over as 0, each up and mark as 0 or 1, and the
+ * release as 1 or 2. */
 #ifndef BOARD_H
 #define BOARD_H
 
 #include <stddef.h>
 #include <stdint.h>
 
-#define BOARD_WORDS 238
+#define BOARD_WORDS 239
 #define ANSWER_WORDS 6
 #define STEP_WORDS 3
 
@@ -57,6 +64,7 @@ extern "C" {
 #endif
 
 uint32_t board_fresh(uint32_t *words, size_t words_len, uint32_t *said, size_t said_len, uint32_t n, uint32_t m);
+uint32_t board_fresh_release_2(uint32_t *words, size_t words_len, uint32_t *said, size_t said_len, uint32_t n, uint32_t m);
 uint32_t board_begin_read(uint32_t *words, size_t words_len, uint32_t *said, size_t said_len, uint32_t console);
 uint32_t board_begin_write(uint32_t *words, size_t words_len, uint32_t *said, size_t said_len, uint32_t console, uint32_t value);
 uint32_t board_deliver(uint32_t *words, size_t words_len, uint32_t *said, size_t said_len, uint32_t console, uint32_t node);

@@ -1,5 +1,5 @@
 /* Console 1 of 2 writes 7 on three nodes; nodes 0 and 2 are a majority, so the write finishes without node 1, which then goes down
- * and comes back. Ends with 0 if every answer is the one that is written here. */
+ * and comes back. Then a read under release 2. Ends with 0 if every answer is the one that is written here. */
 #include "board.h"
 
 static uint32_t words[BOARD_WORDS];
@@ -35,6 +35,18 @@ static int list(void)
     return 0;
 }
 
+/* under release 2 a read of a fresh board finishes with its second reply, whose tag is the same as the first's */
+static int quiet(void)
+{
+    if (board_fresh_release_2(words, BOARD_WORDS, said, ANSWER_WORDS, 3, 2) != 0 || said[0] != 1)
+        return 11;
+    if (board_begin_read(words, BOARD_WORDS, said, ANSWER_WORDS, 0) != 0 || said[0] != 1)
+        return 12;
+    if (twice(0, 0) != 3 || twice(0, 2) != 5 || said[5] != 2)
+        return 13;
+    return 0;
+}
+
 int main(void)
 {
     if (board_fresh(words, BOARD_WORDS, said, ANSWER_WORDS, 3, 2) != 0 || said[0] != 1)
@@ -56,5 +68,6 @@ int main(void)
     /* now node 1 is up: refused with 14 */
     if (board_node_up(words, BOARD_WORDS, said, ANSWER_WORDS, 1) != 0 || said[0] != 0 || said[1] != 14)
         return 8;
-    return list();
+    int wrong = list();
+    return wrong != 0 ? wrong : quiet();
 }

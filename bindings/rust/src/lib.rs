@@ -42,12 +42,26 @@
 //! let outcome = Outcome::Finished { tag: Tag { ts: 1, console: 1 }, value: 7 };
 //! assert_eq!(answers.last(), Some(&Ok(Answer { outcome, compared: Compared::None })));
 //! ```
+//!
+//! Under release 2 a read of a quiet board takes one round, since the replies of a majority all carry the same tag:
+//!
+//! ```
+//! # use hatukeno::{Board, Outcome, Refusal, Release, Tag};
+//! let mut board = Board::fresh_under(3, 2, Release::Two)?;
+//! board.begin_read(0)?;
+//! for node in [0, 0, 2] {
+//!     board.deliver(0, node)?;
+//! }
+//! let tag = Tag { ts: 0, console: 0 };
+//! assert_eq!(board.deliver(0, 2)?.outcome, Outcome::Finished { tag, value: 0 });
+//! # Ok::<(), Refusal>(())
+//! ```
 
 use std::error::Error;
 use std::fmt::{self, Display, Formatter};
 
 /// The words of a board (see [`Board::from_words`]).
-pub const BOARD_WORDS: usize = 238;
+pub const BOARD_WORDS: usize = 239;
 
 /// The words of an answer: the outcome's number, the refusal, the tag's ts and console, the value, the comparison's number.
 const ANSWER_WORDS: usize = 6;
@@ -82,6 +96,13 @@ impl Display for Refusal {
 
 impl Error for Refusal {}
 
+/// The release that a board is made under and keeps. Release 2 differs in reads alone (see [`Board::deliver`]).
+#[derive(Clone, Copy, Debug, PartialEq, Eq)]
+pub enum Release {
+    One,
+    Two,
+}
+
 /// A timestamp and the number of the console that chose it. Tags go by the timestamp, then by the console.
 #[derive(Clone, Copy, Debug, PartialEq, Eq)]
 pub struct Tag {
@@ -96,7 +117,11 @@ pub enum Outcome {
     Handed,
     Heard,
     Turned,
-    Finished { tag: Tag, value: u32 },
+    /// The last ack finishes an operation; under release 2 the last reply may finish a read (see [`Board::deliver`]).
+    Finished {
+        tag: Tag,
+        value: u32,
+    },
     Discarded,
 }
 
@@ -110,14 +135,14 @@ pub enum Compared {
     Higher,
 }
 
-/// What an accepted step answers.
+/// What an accepted step answers. A read that a reply finishes, under release 2, says with its outcome how that reply compared.
 #[derive(Clone, Copy, Debug, PartialEq, Eq)]
 pub struct Answer {
     pub outcome: Outcome,
     pub compared: Compared,
 }
 
-/// A step of a list.
+/// A step of a list. A fresh makes a board under release 1, on a board of release 2 too.
 #[derive(Clone, Copy, Debug, PartialEq, Eq)]
 pub enum Step {
     Fresh { n: u32, m: u32 },
@@ -154,6 +179,7 @@ pub struct Board {
 // words of a list are not three for each step.
 extern "C" {
     fn board_fresh(words: *mut u32, words_len: usize, said: *mut u32, said_len: usize, n: u32, m: u32) -> u32;
+    fn board_fresh_release_2(words: *mut u32, words_len: usize, said: *mut u32, said_len: usize, n: u32, m: u32) -> u32;
     fn board_begin_read(words: *mut u32, words_len: usize, said: *mut u32, said_len: usize, console: u32) -> u32;
     fn board_begin_write(words: *mut u32, words_len: usize, said: *mut u32, said_len: usize, console: u32, value: u32) -> u32;
     fn board_deliver(words: *mut u32, words_len: usize, said: *mut u32, said_len: usize, console: u32, node: u32) -> u32;
@@ -164,10 +190,19 @@ extern "C" {
 }
 
 impl Board {
-    /// The fresh board of n nodes (1 to 5) and m consoles (1 to 8).
+    /// The fresh board of n nodes (1 to 5) and m consoles (1 to 8), under release 1.
     pub fn fresh(n: u32, m: u32) -> Result<Board, Refusal> {
+        Board::fresh_under(n, m, Release::One)
+    }
+
+    /// The fresh board of n nodes (1 to 5) and m consoles (1 to 8), under the release, which it keeps.
+    pub fn fresh_under(n: u32, m: u32, release: Release) -> Result<Board, Refusal> {
+        let make = match release {
+            Release::One => board_fresh,
+            Release::Two => board_fresh_release_2,
+        };
         let mut board = Board { words: [0; BOARD_WORDS] };
-        board.call(|w, wl, s, sl| unsafe { board_fresh(w, wl, s, sl, n, m) })?;
+        board.call(|w, wl, s, sl| unsafe { make(w, wl, s, sl, n, m) })?;
         Ok(board)
     }
 
@@ -181,7 +216,8 @@ impl Board {
         self.call(|w, wl, s, sl| unsafe { board_begin_write(w, wl, s, sl, console, value) })
     }
 
-    /// The frame between the console and the node is delivered.
+    /// The frame between the console and the node is delivered. Under release 2 a read whose q replies (those of a majority) all
+    /// carry the same tag finishes at that delivery, without telling; its other cells stay as they are.
     pub fn deliver(&mut self, console: u32, node: u32) -> Result<Answer, Refusal> {
         self.call(|w, wl, s, sl| unsafe { board_deliver(w, wl, s, sl, console, node) })
     }
@@ -215,17 +251,17 @@ impl Board {
     /// The board that these words are. Any words are some board's; if it is not well formed, every step but a fresh refuses
     /// it with 1.
     ///
-    /// - words 0 and 1: n and m
-    /// - from 2 on, four for each of 5 nodes: up (0 is down), ts, console, value
-    /// - from 22 on, seven for each of 8 consoles: state (0 idle, 1 asking to read, 2 asking to write, 3 telling to read, 4
+    /// - words 0, 1 and 2: n, m and the release (2 is release 2, any other number release 1)
+    /// - from 3 on, four for each of 5 nodes: up (0 is down), ts, console, value
+    /// - from 23 on, seven for each of 8 consoles: state (0 idle, 1 asking to read, 2 asking to write, 3 telling to read, 4
     ///   telling to write, from 5 on down), wanted value, answered set (bit k is node k; bits from 8 on are passed over), best
     ///   ts, best console, best value, the mark 'all alike so far' (0 is off; it is on from the first answer of an asking while
     ///   every answer has carried one tag)
-    /// - from 78 on, four for each of 40 cells, at console times 5 plus node: frame (0 nothing, 1 ask, 2 reply, 3 put, from 4 on
+    /// - from 79 on, four for each of 40 cells, at console times 5 plus node: frame (0 nothing, 1 ask, 2 reply, 3 put, from 4 on
     ///   ack), ts, console, value; the last three are passed over but for a reply and a put
     ///
     /// An accepted step writes all words anew, each number that is passed over as 0, each state and frame as its lowest number,
-    /// and each up and mark as 0 or 1.
+    /// each up and mark as 0 or 1, and the release as 1 or 2.
     pub fn from_words(words: [u32; BOARD_WORDS]) -> Board {
         Board { words }
     }
@@ -249,7 +285,7 @@ fn answer(said: &[u32]) -> Result<Answer, Refusal> {
         [2, 0, 0, 0, 0, 0] => Outcome::Handed,
         [3, 0, 0, 0, 0, _] => Outcome::Heard,
         [4, 0, 0, 0, 0, _] => Outcome::Turned,
-        [5, 0, ts, console, value, 0] => Outcome::Finished {
+        [5, 0, ts, console, value, _] => Outcome::Finished {
             tag: Tag { ts, console },
             value,
         },
@@ -270,10 +306,41 @@ fn answer(said: &[u32]) -> Result<Answer, Refusal> {
 mod tests {
     use super::*;
 
+    // Where the release and the first node, console and cell stand in the words.
+    const RELEASE: usize = 2;
+    const NODES: usize = 3;
+    const CONSOLES: usize = 23;
+    const CELLS: usize = 79;
+
     const DONE: Answer = Answer {
         outcome: Outcome::Done,
         compared: Compared::None,
     };
+
+    const FINISHED_EARLY: Answer = Answer {
+        outcome: Outcome::Finished {
+            tag: Tag { ts: 0, console: 0 },
+            value: 0,
+        },
+        compared: Compared::Same,
+    };
+
+    const TURNED: Answer = Answer {
+        outcome: Outcome::Turned,
+        compared: Compared::Same,
+    };
+
+    /// Delivers between the console and each of the nodes, one after the other, and gives the last answer.
+    fn deliver_all(board: &mut Board, console: u32, nodes: &[u32]) -> Answer {
+        let answers = nodes.iter().map(|&node| board.deliver(console, node).unwrap());
+        answers.last().unwrap()
+    }
+
+    /// Console 0 of a fresh board reads by nodes 0 and 2: the answer to the second reply.
+    fn quiet_read(board: &mut Board) -> Answer {
+        board.begin_read(0).unwrap();
+        deliver_all(board, 0, &[0, 0, 2, 2])
+    }
 
     #[test]
     fn short_memory_is_refused_and_nothing_is_written() {
@@ -283,6 +350,8 @@ mod tests {
         let s = said.as_mut_ptr();
         assert_eq!(unsafe { board_fresh(w, BOARD_WORDS - 1, s, ANSWER_WORDS, 3, 2) }, 1);
         assert_eq!(unsafe { board_fresh(w, BOARD_WORDS, s, ANSWER_WORDS - 1, 3, 2) }, 2);
+        assert_eq!(unsafe { board_fresh_release_2(w, BOARD_WORDS - 1, s, ANSWER_WORDS, 3, 2) }, 1);
+        assert_eq!(unsafe { board_fresh_release_2(w, BOARD_WORDS, s, ANSWER_WORDS - 1, 3, 2) }, 2);
         assert_eq!(unsafe { board_deliver(w, 0, s, 0, 0, 0) }, 1);
         assert_eq!(words, [9; BOARD_WORDS]);
         assert_eq!(said, [9; ANSWER_WORDS]);
@@ -302,7 +371,7 @@ mod tests {
     #[test]
     fn a_damaged_board_is_refused_and_kept() {
         let mut words = *Board::fresh(3, 2).unwrap().words();
-        words[3] = 4_000_000_001; // the ts of node 0
+        words[NODES + 1] = 4_000_000_001; // the ts of node 0
         let mut board = Board::from_words(words);
         assert_eq!(board.deliver(0, 0), Err(Refusal(1)));
         assert_eq!(board.node_down(0), Err(Refusal(1)));
@@ -313,7 +382,7 @@ mod tests {
     #[test]
     fn a_mark_that_is_on_at_an_idle_console_is_refused_and_kept() {
         let mut words = *Board::fresh(3, 2).unwrap().words();
-        words[22 + 6] = 1;
+        words[CONSOLES + 6] = 1;
         let mut board = Board::from_words(words);
         assert_eq!(board.begin_read(1), Err(Refusal(1)));
         assert_eq!(board.words(), &words);
@@ -360,7 +429,7 @@ mod tests {
         }
         // Nodes 3 and 4 still hold the fresh board's tag (0, 0), which is also the best that console 0 begins with.
         assert_eq!(board.begin_read(0), Ok(DONE));
-        let mark = 22 + 6;
+        let mark = CONSOLES + 6;
         assert_eq!(board.words()[mark], 0);
         let replies = [
             (3, Outcome::Heard, Compared::Same, 1),
@@ -384,15 +453,99 @@ mod tests {
     #[test]
     fn a_delivery_that_is_refused_says_none() {
         let mut words = *Board::fresh(1, 1).unwrap().words();
-        words[3] = 4_000_000_000;
+        words[NODES + 1] = 4_000_000_000;
         let mut board = Board::from_words(words);
         board.begin_write(0, 7).unwrap();
         board.deliver(0, 0).unwrap();
         let mut words = board.words;
         let mut said = [9; ANSWER_WORDS];
-        assert_eq!(unsafe { board_deliver(words.as_mut_ptr(), BOARD_WORDS, said.as_mut_ptr(), ANSWER_WORDS, 0, 0) }, 0);
+        let (w, s) = (words.as_mut_ptr(), said.as_mut_ptr());
+        assert_eq!(unsafe { board_deliver(w, BOARD_WORDS, s, ANSWER_WORDS, 0, 0) }, 0);
         assert_eq!(said, [0, 10, 0, 0, 0, 0]);
         assert_eq!(words, board.words);
+    }
+
+    #[test]
+    fn a_quiet_read_finishes_with_its_replies_under_release_2() {
+        let fresh = Board::fresh_under(3, 2, Release::Two).unwrap();
+        let mut board = fresh.clone();
+        assert_eq!(quiet_read(&mut board), FINISHED_EARLY);
+        // The ask to node 1 is still there, and nothing else.
+        let mut words = fresh.words;
+        words[CELLS + 4] = 1;
+        assert_eq!(board.words, words);
+    }
+
+    #[test]
+    fn a_quiet_read_tells_under_release_1() {
+        assert_eq!(quiet_read(&mut Board::fresh(3, 2).unwrap()), TURNED);
+        assert_eq!(quiet_read(&mut Board::fresh_under(3, 2, Release::One).unwrap()), TURNED);
+    }
+
+    #[test]
+    fn a_write_tells_under_release_2() {
+        let mut board = Board::fresh_under(3, 2, Release::Two).unwrap();
+        board.begin_write(0, 7).unwrap();
+        assert_eq!(deliver_all(&mut board, 0, &[0, 0, 2, 2]), TURNED);
+    }
+
+    #[test]
+    fn a_read_whose_replies_differ_tells_under_release_2() {
+        let mut board = Board::fresh_under(3, 2, Release::Two).unwrap();
+        board.begin_write(1, 7).unwrap();
+        deliver_all(&mut board, 1, &[0, 0, 2, 2, 0, 0, 2, 2]);
+        // Node 1 has not heard of the write.
+        board.begin_read(0).unwrap();
+        let turned = Answer {
+            outcome: Outcome::Turned,
+            compared: Compared::Lower,
+        };
+        assert_eq!(deliver_all(&mut board, 0, &[0, 0, 1, 1]), turned);
+    }
+
+    #[test]
+    fn one_node_finishes_a_read_with_a_higher_tag_under_release_2() {
+        let mut board = Board::fresh_under(1, 1, Release::Two).unwrap();
+        board.begin_write(0, 7).unwrap();
+        deliver_all(&mut board, 0, &[0, 0, 0, 0]);
+        board.begin_read(0).unwrap();
+        let tag = Tag { ts: 1, console: 0 };
+        let finished = Answer {
+            outcome: Outcome::Finished { tag, value: 7 },
+            compared: Compared::Higher,
+        };
+        assert_eq!(deliver_all(&mut board, 0, &[0, 0]), finished);
+    }
+
+    #[test]
+    fn a_refused_making_under_release_2_leaves_the_lent_board() {
+        for (n, m, refusal) in [(6, 2, 2), (5, 9, 3)] {
+            let mut words = [9; BOARD_WORDS];
+            let mut said = [9; ANSWER_WORDS];
+            let (w, s) = (words.as_mut_ptr(), said.as_mut_ptr());
+            assert_eq!(unsafe { board_fresh_release_2(w, BOARD_WORDS, s, ANSWER_WORDS, n, m) }, 0);
+            assert_eq!(words, [9; BOARD_WORDS]);
+            assert_eq!(said, [0, refusal, 0, 0, 0, 0]);
+        }
+    }
+
+    #[test]
+    fn a_release_that_there_is_not_is_release_1() {
+        for release in [0, 3, u32::MAX] {
+            let mut words = Board::fresh_under(3, 2, Release::Two).unwrap().words;
+            words[RELEASE] = release;
+            let mut board = Board::from_words(words);
+            assert_eq!(quiet_read(&mut board), TURNED);
+            assert_eq!(board.words[RELEASE], 1);
+        }
+    }
+
+    #[test]
+    fn a_fresh_of_a_list_makes_release_1() {
+        let mut board = Board::fresh_under(3, 2, Release::Two).unwrap();
+        assert_eq!(board.run(&[Step::Fresh { n: 3, m: 2 }]), [Ok(DONE)]);
+        assert_eq!(board, Board::fresh(3, 2).unwrap());
+        assert_eq!(quiet_read(&mut board), TURNED);
     }
 
     #[test]

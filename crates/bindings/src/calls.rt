@@ -3,6 +3,7 @@
 ghost use mathlib.Core.Path.{_≡_};
 ghost use Prim.Native.Nat.{_+_, _≤_};
 ghost use lib.ListN.{length};
+ghost use Rattle.parts.specs.declared.Release.the-variants.{One, Two};
 ghost use Rattle.board.specs.Steps.{setupOf, fresh, beginRead, beginWrite, nodeDown, consoleDown, nodeUp};
 ghost use Rattle.board.specs.Deliver.{deliver};
 ghost use Rattle.words.specs.Words.{boardWords};
@@ -11,6 +12,7 @@ use board::Answer;
 use board::Board;
 use parts::ConsoleId;
 use parts::NodeId;
+use parts::Release;
 use words::BOARD_WORDS;
 use words::reading::decode;
 use words::writing::encode;
@@ -56,19 +58,35 @@ fn short_by(w: usize, s: usize) -> u32
     0
 }
 
-// The fresh board of n nodes and m consoles.
-#[no_mangle]
-pub extern "C" fn board_fresh(w: &mut [u32], s: &mut [u32], n: u32, m: u32) -> u32
-    ensures { λ r. ⌜ Called (λ b. fresh (setupOf n m)) (now (w .entry)) (now (s .entry)) r (now (w .exit)) (now (s .exit)) ⌝ }
+// The fresh board of n nodes and m consoles, under this release.
+fn fresh_under(w: &mut [u32], s: &mut [u32], n: u32, m: u32, release: Release) -> u32
+    ensures { λ r. ⌜ Called (λ b. fresh (setupOf n m release)) (now (w .entry)) (now (s .entry)) r (now (w .exit)) (now (s .exit)) ⌝ }
 {
     let short = short_by(w.len(), s.len());
     if short != 0 {
         return short;
     }
-    let a = Board::fresh(n, m);
+    let a = Board::fresh_under(n, m, release);
     put_answer(s, 0, a);
     keep(w, a);
     0
+}
+
+// The fresh board of n nodes and m consoles, under release 1. Each release has a call of its own, so that no caller can ask
+// for a release that there is not.
+#[no_mangle]
+pub extern "C" fn board_fresh(w: &mut [u32], s: &mut [u32], n: u32, m: u32) -> u32
+    ensures { λ r. ⌜ Called (λ b. fresh (setupOf n m One)) (now (w .entry)) (now (s .entry)) r (now (w .exit)) (now (s .exit)) ⌝ }
+{
+    fresh_under(w, s, n, m, Release::One)
+}
+
+// The same under release 2.
+#[no_mangle]
+pub extern "C" fn board_fresh_release_2(w: &mut [u32], s: &mut [u32], n: u32, m: u32) -> u32
+    ensures { λ r. ⌜ Called (λ b. fresh (setupOf n m Two)) (now (w .entry)) (now (s .entry)) r (now (w .exit)) (now (s .exit)) ⌝ }
+{
+    fresh_under(w, s, n, m, Release::Two)
 }
 
 // Console c begins a read.

@@ -1,5 +1,5 @@
 -- P1 to P10 as one theorem, by computation: what each run of the list shows is what it must show. Then the same of the runs of
--- node up, and of those that say how replies compare.
+-- node up, of those that say how replies compare, and of those under release 2.
 use mathlib.Core.List.{List, map}
 use mathlib.Core.Path.{_≡_, refl}
 use Rattle.parts.specs.Finite.{every, count}
@@ -13,15 +13,16 @@ use Rattle.board.specs.Boards.{nodeAt, consoleAt, frameAt, withNode, wit
 use Rattle.board.specs.WellFormed.{wellFormed}
 use Rattle.board.specs.Answers.{guarded}
 use Rattle.board.specs.Steps.{fresh, begun, begin, nodeDown, nodeUp, consoleDown}
-use Rattle.board.specs.Deliver.{toNode, onAsk, onPut, discards, heard, turned, replied, onReply, acknowledged, onAck, onFrame, deliver}
+use Rattle.board.specs.Deliver.{toNode, onAsk, onPut, discards, heard, finished, finishesEarly, turned, replied, onReply, acknowledged, onAck, onFrame, deliver}
 use Rattle.board.specs.Runs.{step}
 use Rattle.board.specs.PRuns.{PRun, Seen, seen, after, allSeen, shows, mustShow, pRuns}
 use Rattle.board.specs.UpRuns.{upRuns}
-use Rattle.board.specs.CompareRuns.{CompareRun, Told, allTold, says, mustSay, compareRuns}
+use Rattle.board.specs.CompareRuns.{CompareRun, Told, allTold, says, mustSay, written, lower, higher, compareRuns}
+use Rattle.board.specs.QuietRuns.{quietRuns, quietReplies}
 
 -- what runs show, with every definition opened
 opened : List PRun → List CompareRun → List (List Seen) × List (List Told)
-unfolding every count greater compared member insert size onlyBelow majority askSize tellSize nodeIn consoleIn frameIn place setFrame setRow nodesAllowed consolesAllowed setupOk isZero tagOk nodeOk nodesOk restOk wantedOk waitOk stateOk markOk consoleOk consolesOk frameOk cellOk rowOk cellsOk withUp taken rests asks awaits stillAlike hears takesIn nextTag tells acked nodeAt consoleAt frameAt withNode withConsole withFrame withRow freshBoard wellFormed guarded fresh begun begin nodeDown nodeUp consoleDown toNode onAsk onPut discards heard turned replied onReply acknowledged onAck onFrame deliver step seen after allSeen allTold
+unfolding every count greater compared member insert size onlyBelow majority askSize tellSize nodeIn consoleIn frameIn place setFrame setRow nodesAllowed consolesAllowed setupOk isZero tagOk nodeOk nodesOk restOk wantedOk waitOk stateOk markOk consoleOk consolesOk frameOk cellOk rowOk cellsOk withUp taken rests asks awaits stillAlike hears takesIn nextTag tells acked nodeAt consoleAt frameAt withNode withConsole withFrame withRow freshBoard wellFormed guarded fresh begun begin nodeDown nodeUp consoleDown toNode onAsk onPut discards heard finished finishesEarly turned replied onReply acknowledged onAck onFrame deliver step seen after allSeen allTold
 opened rs cs = (map shows rs, map says cs)
 
 pub p-runs-hold : map shows pRuns ≡ map mustShow pRuns
@@ -33,5 +34,13 @@ unfolding opened upRuns
 up-runs-hold = refl
 
 pub compare-runs-hold : map says compareRuns ≡ map mustSay compareRuns
-unfolding opened compareRuns
+unfolding opened compareRuns written lower higher
 compare-runs-hold = refl
+
+pub quiet-runs-hold : map shows quietRuns ≡ map mustShow quietRuns
+unfolding opened quietRuns
+quiet-runs-hold = refl
+
+pub quiet-replies-hold : map says quietReplies ≡ map mustSay quietReplies
+unfolding opened quietReplies written lower higher
+quiet-replies-hold = refl

@@ -7,6 +7,7 @@ use Rattle.parts.specs.declared.Compared.{Compared}
 use Rattle.parts.specs.declared.Compared.the-variants.{None, Lower, Same, Higher}
 use Rattle.parts.specs.declared.Console.{Console}
 use Rattle.parts.specs.declared.Frame.the-variants.{Reply}
+use Rattle.parts.specs.declared.Release.the-variants.{One}
 use Rattle.parts.specs.declared.Kind.the-variants.{Read, Write}
 use Rattle.parts.specs.declared.State.{State}
 use Rattle.parts.specs.declared.State.the-variants.{Idle, Asking, Telling, Down}
@@ -68,20 +69,20 @@ mustSay r = r .lines
 abbrev does : Step → ℕ → ℕ → Compared → Bool → Told
 does s o r how on = record { taken = s; outcome = o; refusal = r; compared = how; alike = on }
 
-abbrev done : Step → Told
+abbrev pub done : Step → Told
 done s = does s 1 0 None false
 
-abbrev handed : ℕ → ℕ → Bool → Told
+abbrev pub handed : ℕ → ℕ → Bool → Told
 handed c k on = does (Deliver c k) 2 0 None on
 
-abbrev heard : ℕ → ℕ → Compared → Bool → Told
+abbrev pub heard : ℕ → ℕ → Compared → Bool → Told
 heard c k how on = does (Deliver c k) 3 0 how on
 
-abbrev turned : ℕ → ℕ → Compared → Told
+abbrev pub turned : ℕ → ℕ → Compared → Told
 turned c k how = does (Deliver c k) 4 0 how false
 
-abbrev finished : ℕ → ℕ → Told
-finished c k = does (Deliver c k) 5 0 None false
+abbrev pub finished : ℕ → ℕ → Compared → Told
+finished c k how = does (Deliver c k) 5 0 how false
 
 abbrev discarded : ℕ → ℕ → Bool → Told
 discarded c k on = does (Deliver c k) 6 0 None on
@@ -92,7 +93,7 @@ refused c k r on = does (Deliver c k) 0 r None on
 -- ---- the runs, on five nodes and two consoles
 
 abbrev onFive : List Told → CompareRun
-onFive ls = record { start = freshBoard (setupOf 5 2); lines = ls }
+onFive ls = record { start = freshBoard (setupOf 5 2 One); lines = ls }
 
 -- a read on a board where nothing was written: every reply is the same as (0, 0). Once told, an ack says none
 agreed : List Told
@@ -109,11 +110,11 @@ agreed =
     ∷ handed 0 1 false
     ∷ heard 0 1 None false
     ∷ handed 0 2 false
-    ∷ finished 0 2
+    ∷ finished 0 2 None
     ∷ []
 
 -- console 1 writes: nodes 0, 1 and 2 hold (1, 1), and nodes 3 and 4 still (0, 0)
-written : List Told
+unfoldable pub written : List Told
 written =
     done (BeginWrite 1 7)
     ∷ handed 1 0 false
@@ -127,11 +128,12 @@ written =
     ∷ handed 1 1 false
     ∷ heard 1 1 None false
     ∷ handed 1 2 false
-    ∷ finished 1 2
+    ∷ finished 1 2 None
     ∷ []
 
 -- the first answer sets the mark, whatever its tag: it is compared with (0, 0). A lower tag clears it
-lower : List Told
+unfoldable pub lower : List Told
+unfolding written
 lower =
     written
     ++ (done (BeginRead 0)
@@ -144,7 +146,8 @@ lower =
     ∷ [])
 
 -- a higher tag clears it
-higher : List Told
+unfoldable pub higher : List Told
+unfolding written
 higher =
     written
     ++ (done (BeginRead 0)
@@ -182,14 +185,14 @@ console s a on = record { state = s; wanted = 0; answered = a; best = zeroTag; v
 again : CompareRun
 again =
     record {
-      start = withFrame (withConsole (freshBoard (setupOf 5 2)) 0 (console (Asking Read) 4 true)) 0 2 (Reply zeroTag 0);
+      start = withFrame (withConsole (freshBoard (setupOf 5 2 One)) 0 (console (Asking Read) 4 true)) 0 2 (Reply zeroTag 0);
       lines = discarded 0 2 true ∷ [];
     }
 
 -- a board on which console c is x and all cells are empty: question 4 or 8 refuses the delivery, or question 1 if the mark may
 -- not stand so
 abbrev marked : ℕ → Console → ℕ → CompareRun
-marked c x r = record { start = withConsole (freshBoard (setupOf 5 2)) c x; lines = refused c 0 r (x .alike) ∷ [] }
+marked c x r = record { start = withConsole (freshBoard (setupOf 5 2 One)) c x; lines = refused c 0 r (x .alike) ∷ [] }
 
 -- each clause on the mark, broken and kept; two answers, with which it may be on or off; and a console beyond m
 marks : List CompareRun

@@ -1,7 +1,7 @@
 -- Deliver (document 01, 'The steps'): one definition for each kind of frame. Of its answers only that to a reply which is taken
--- in says how the tag compared (document 02, Paper 3).
+-- in says how the tag compared (document 02, Paper 3), and such a reply may finish a read early (Paper 4).
 use Prim.Native.Nat.{ℕ}
-use mathlib.Core.Bool.{cond}
+use mathlib.Core.Bool.{Bool, cond, not, _&&_}
 use mathlib.Core.List.{[], _∷_}
 use lib.Dec.{ltb}
 use Rattle.parts.specs.declared.Tag.{Tag}
@@ -9,11 +9,12 @@ use Rattle.parts.specs.declared.Frame.{Frame}
 use Rattle.parts.specs.declared.Frame.the-variants.{Nothing, Ask, Reply, Put, Ack}
 use Rattle.parts.specs.declared.State.the-variants.{Idle}
 use Rattle.parts.specs.declared.Console.{Console}
+use Rattle.parts.specs.declared.Setup.{Setup}
 use Rattle.parts.specs.declared.Compared.{Compared}
 use Rattle.parts.specs.declared.Compared.the-variants.{None}
 use Rattle.parts.specs.AnsweredSet.{size}
 use Rattle.parts.specs.Sizes.{askSize, tellSize}
-use Rattle.parts.specs.Parts.{isAsking, isTelling}
+use Rattle.parts.specs.Parts.{isAsking, isTelling, isTwo, writes}
 use Rattle.changes.specs.declared.TakenIn.{TakenIn}
 use Rattle.changes.specs.Changes.{taken, rests, awaits, takesIn, tells, acked}
 use Rattle.board.specs.declared.Board.{Board}
@@ -43,17 +44,29 @@ discards b c k = answer Discarded (withFrame b c k Nothing)
 unfoldable pub heard : Compared → Board → ℕ → ℕ → Console → Answer
 heard how b c k x = answerWith how Heard (withConsole (withFrame b c k Nothing) c x)
 
+-- 'the cell empties', console c, which with the answer taken in is x, 'becomes idle and its own fields clear; outcome: finished,
+-- with the best tag and value it had. Its other cells keep their frames'
+unfoldable pub finished : Compared → Board → ℕ → ℕ → Console → Answer
+finished how b c k x = answerWith how (Finished (x .best) (x .value)) (withConsole (withFrame b c k Nothing) c (rests Idle x))
+
+-- 'From release 2, a read whose q replies all carry the same tag (the mark still on) finishes at that delivery'; x is the console
+-- with the q-th reply taken in
+unfoldable pub finishesEarly : Setup → Console → Bool
+finishesEarly σ x = isTwo (σ .release) && (not (writes (x .state)) && x .alike)
+
 -- 'the console becomes telling .. all n cells become put with that tag and value'; x is the console with the reply taken in
 unfoldable pub turned : Board → ℕ → Console → Board
 turned b c x = withConsole (withRow b c (Put (tells c x .best) (tells c x .value))) c (tells c x)
 
 -- the reply r is taken in: 'With fewer than q answers the outcome is heard. At q answers the console becomes telling .. Outcome:
--- turned'. Both pass on how its tag compared
+-- turned', unless it finishes early and 'sends no put'. All three pass on how its tag compared
 unfoldable pub replied : Board → ℕ → ℕ → TakenIn → Answer
 replied b c k r =
     cond (ltb (size (r .console .answered)) (askSize (b .setup)))
     (heard (r .compared) b c k (r .console))
-    (guarded (has-next-ts (r .console) ∷ []) b (answerWith (r .compared) Turned (turned b c (r .console))))
+    (cond (finishesEarly (b .setup) (r .console))
+    (finished (r .compared) b c k (r .console))
+    (guarded (has-next-ts (r .console) ∷ []) b (answerWith (r .compared) Turned (turned b c (r .console)))))
 
 -- Reply, 'at an asking console that has no answer yet from this node'
 unfoldable pub onReply : Board → ℕ → ℕ → Tag → ℕ → Answer
@@ -62,13 +75,12 @@ onReply b c k t v =
     (replied b c k (takesIn (consoleAt b c) k t v))
     (discards b c k)
 
--- an ack that is taken in, with which console c is x: 'Below q: heard. At q the console becomes idle and its own fields
--- clear; outcome: finished, with the best tag and value it had. Its other cells keep their frames'
+-- an ack that is taken in, with which console c is x: 'Below q: heard. At q the console becomes idle .. outcome: finished'
 unfoldable pub acknowledged : Board → ℕ → ℕ → Console → Answer
 acknowledged b c k x =
     cond (ltb (size (x .answered)) (tellSize (b .setup)))
     (heard None b c k x)
-    (answer (Finished (x .best) (x .value)) (withConsole (withFrame b c k Nothing) c (rests Idle x)))
+    (finished None b c k x)
 
 -- Ack, 'at a telling console that has no answer yet from this node'
 unfoldable pub onAck : Board → ℕ → ℕ → Answer

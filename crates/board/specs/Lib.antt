@@ -10,3 +10,4 @@ pub mod Runs
 pub mod PRuns
 pub mod UpRuns
 pub mod CompareRuns
+pub mod QuietRuns

@@ -7,6 +7,8 @@ use lib.ListN.{replicate, take}
 use Rattle.parts.specs.declared.Tag.{Tag}
 use Rattle.parts.specs.declared.Frame.{Frame}
 use Rattle.parts.specs.declared.Frame.the-variants.{Nothing, Reply, Put, Ack}
+use Rattle.parts.specs.declared.Release.the-variants.{One}
+use Rattle.parts.specs.declared.Setup.{Setup}
 use Rattle.parts.specs.declared.Kind.the-variants.{Write}
 use Rattle.parts.specs.declared.State.the-variants.{Asking}
 use Rattle.parts.specs.Tags.{zeroTag}
@@ -15,14 +17,15 @@ use Rattle.board.specs.declared.Board.{Board}
 use Rattle.board.specs.declared.Answer.{Answer}
 use Rattle.board.specs.Boards.{nodeAt, frameAt, freshBoard}
 use Rattle.parts.specs.Outcomes.{outcomeNumber, outcomeTag, outcomeValue}
-use Rattle.board.specs.Steps.{setupOf, smallest, fresh}
+use Rattle.board.specs.Steps as steps
+use Rattle.board.specs.Steps.{setupOf, smallest}
 use Rattle.board.specs.Runs.{Step, BeginRead, BeginWrite, Deliver, NodeDown, step}
 
 -- ---- a run: what is done or looked at, in order, and what must be seen
 
 pub data Look : Type 0 where
-  -- make a board of n nodes and m consoles
-  Make : ℕ → ℕ → Look
+  -- make a board
+  Make : Setup → Look
   -- take a step
   Take : Step → Look
   -- look at a node, at a cell, at the whole board
@@ -59,7 +62,7 @@ abbrev pub said : Answer → Seen
 said a = Said (outcomeNumber (a .outcome)) (a .refusal) (outcomeTag (a .outcome)) (outcomeValue (a .outcome))
 
 unfoldable pub seen : Board → Look → Seen
-seen b (Make n m) = said (fresh (setupOf n m))
+seen b (Make σ) = said (steps.fresh σ)
 seen b (Take s) = said (step b s)
 seen b (NodeOf k) = Holds (nodeAt b k .tag) (nodeAt b k .value)
 seen b (CellOf c k) = Frames (frameAt b c k)
@@ -67,7 +70,7 @@ seen b Whole = Is b
 
 -- the board after it
 unfoldable pub after : Board → Look → Board
-after b (Make n m) = fresh (setupOf n m) .board
+after b (Make σ) = steps.fresh σ .board
 after b (Take s) = step b s .board
 after b (NodeOf k) = b
 after b (CellOf c k) = b
@@ -98,16 +101,20 @@ done = Said 1 0 zeroTag 0
 abbrev pub handed : Seen
 handed = Said 2 0 zeroTag 0
 
-abbrev heard : Seen
+abbrev pub heard : Seen
 heard = Said 3 0 zeroTag 0
 
-abbrev turned : Seen
+abbrev pub turned : Seen
 turned = Said 4 0 zeroTag 0
 
-abbrev finished : Tag → ℕ → Seen
+abbrev pub finished : Tag → ℕ → Seen
 finished t v = Said 5 0 t v
 
-abbrev read : ℕ → Look
+-- document 01's fresh, which is release 1
+abbrev fresh : ℕ → ℕ → Look
+fresh n m = Make (setupOf n m One)
+
+abbrev pub read : ℕ → Look
 read c = Take (BeginRead c)
 
 abbrev write : ℕ → ℕ → Look
@@ -120,24 +127,24 @@ abbrev pub nodeDown : ℕ → Look
 nodeDown k = Take (NodeDown k)
 
 abbrev ofSize : ℕ → ℕ → Board
-ofSize n m = freshBoard (setupOf n m)
+ofSize n m = freshBoard (setupOf n m One)
 
 -- a run on three nodes and two consoles
 abbrev pub onThree : List Line → List Line
-onThree ls = Make 3 2 gives done ∷ ls
+onThree ls = fresh 3 2 gives done ∷ ls
 
 -- ---- P1 to P10
 
 p1 : List Line
 p1 =
-    Make 0 0 gives refused 2
-    ∷ Whole gives Is (freshBoard smallest)
-    ∷ Make 5 8 gives done
+    fresh 0 0 gives refused 2
+    ∷ Whole gives Is (ofSize 1 1)
+    ∷ fresh 5 8 gives done
     ∷ Whole gives Is (ofSize 5 8)
-    ∷ Make 6 1 gives refused 2
-    ∷ Whole gives Is (freshBoard smallest)
-    ∷ Make 5 9 gives refused 3
-    ∷ Whole gives Is (freshBoard smallest)
+    ∷ fresh 6 1 gives refused 2
+    ∷ Whole gives Is (ofSize 1 1)
+    ∷ fresh 5 9 gives refused 3
+    ∷ Whole gives Is (ofSize 1 1)
     ∷ []
 
 -- the steps of P2, on three nodes and two consoles
@@ -157,11 +164,10 @@ p2-steps =
 p2 : List Line
 p2 = onThree (p2-steps ++ (NodeOf 1 gives Holds (tag 0 0) 0 ∷ CellOf 1 1 gives Frames (Put (tag 1 1) 7) ∷ []))
 
-p3 : List Line
-p3 =
-    onThree
-    (p2-steps
-    ++ (read 0 gives done
+-- what follows them in P3
+abbrev pub p3-steps : List Line
+p3-steps =
+    read 0 gives done
     ∷ deliver 0 1 gives handed
     ∷ CellOf 0 1 gives Frames (Reply (tag 0 0) 0)
     ∷ deliver 0 2 gives handed
@@ -176,12 +182,15 @@ p3 =
     ∷ deliver 0 1 gives heard
     ∷ deliver 0 2 gives handed
     ∷ deliver 0 2 gives finished (tag 1 1) 7
-    ∷ []))
+    ∷ []
+
+p3 : List Line
+p3 = onThree (p2-steps ++ p3-steps)
 
 -- ten deliveries, 3 + 2 + 3 + 2 = 2 (n + q); that no operation takes more is demand 3's bound
 p4 : List Line
 p4 =
-    Make 3 2 gives done
+    fresh 3 2 gives done
     ∷ write 1 7 gives done
     ∷ deliver 1 0 gives handed
     ∷ deliver 1 1 gives handed
@@ -197,7 +206,7 @@ p4 =
 
 p5 : List Line
 p5 =
-    Make 1 1 gives done
+    fresh 1 1 gives done
     ∷ read 0 gives done
     ∷ deliver 0 0 gives handed
     ∷ deliver 0 0 gives turned
@@ -244,7 +253,7 @@ p8-reply = onThree (read 0 gives done ∷ deliver 0 1 gives handed ∷ nodeDown 
 abbrev pub p9-board : ℕ → Board
 p9-board t =
     record {
-      setup = setupOf 1 1;
+      setup = setupOf 1 1 One;
       nodes = record { up = true; tag = tag t 0; value = 5 } ∷ replicate 4 freshNode;
       consoles = record { state = Asking Write; wanted = 7; answered = 0; best = zeroTag; value = 0; alike = false } ∷ replicate 7 idleConsole;
       cells = cellOf (Reply (tag t 0) 5) ∷ replicate 39 (cellOf Nothing);

@@ -7,6 +7,8 @@ use Rattle.parts.specs.declared.Frame.the-variants.{Ask}
 use Rattle.parts.specs.declared.Kind.{Kind}
 use Rattle.parts.specs.declared.Kind.the-variants.{Read, Write}
 use Rattle.parts.specs.declared.State.the-variants.{Down}
+use Rattle.parts.specs.declared.Release.{Release}
+use Rattle.parts.specs.declared.Release.the-variants.{One}
 use Rattle.parts.specs.declared.Setup.{Setup}
 use Rattle.changes.specs.Changes.{withUp, rests, asks}
 use Rattle.board.specs.declared.Board.{Board}
@@ -16,15 +18,16 @@ use Rattle.board.specs.Boards.{nodeAt, consoleAt, withNode, withConsole,
 use Rattle.board.specs.Answers.{answer, guarded}
 use Rattle.board.specs.Questions.{is-well-formed, has-allowed-nodes, has-allowed-consoles, has-console, has-node, console-is-up, console-is-idle, node-is-up, node-is-down}
 
--- n nodes and m consoles
-abbrev pub setupOf : ℕ → ℕ → Setup
-setupOf n m = record { n = n; m = m }
+-- n nodes and m consoles, under a release
+abbrev pub setupOf : ℕ → ℕ → Release → Setup
+setupOf n m release = record { n = n; m = m; release = release }
 
--- 'fresh refused hands back the fresh board of one node and one console'
+-- 'fresh refused hands back the fresh board of one node and one console (release 1, ..)'
 abbrev pub smallest : Setup
-smallest = setupOf 1 1
+smallest = setupOf 1 1 One
 
--- 'Fresh takes n and m'; it names no outcome, and so 'gives done'
+-- 'Fresh takes n and m'; it names no outcome, and so 'gives done'. 'A board is made under one release' (document 02, Paper 4):
+-- 1 where none is named
 unfoldable pub fresh : Setup → Answer
 fresh σ =
     guarded

@@ -3,6 +3,7 @@
 use Prim.Native.Nat.{ℕ}
 use mathlib.Core.List.{List, [], _∷_, _++_}
 use Rattle.parts.specs.declared.Frame.the-variants.{Put}
+use Rattle.parts.specs.declared.Release.the-variants.{One}
 use Rattle.board.specs.Boards.{freshBoard}
 use Rattle.board.specs.Steps.{setupOf}
 use Rattle.board.specs.Runs.{NodeUp}
@@ -45,7 +46,7 @@ twice =
     ∷ nodeDown 0 gives refused 9
     ∷ nodeUp 0 gives done
     ∷ nodeUp 0 gives refused 14
-    ∷ Whole gives Is (freshBoard (setupOf 3 2))
+    ∷ Whole gives Is (freshBoard (setupOf 3 2 One))
     ∷ [])
 
 -- question 1 comes first: a timestamp is too high

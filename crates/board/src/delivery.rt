@@ -8,7 +8,7 @@ ghost use Rattle.parts.specs.Limits.{maxNodes, maxConsoles, maxTs};
 ghost use Rattle.parts.specs.Parts.{writes};
 ghost use Rattle.board.specs.Boards.{frameAt};
 ghost use Rattle.board.specs.InRange.{InRange};
-ghost use Rattle.board.specs.Deliver.{onAsk, onPut, discards, heard, turned, replied, onReply, acknowledged, onAck, onFrame, deliver};
+ghost use Rattle.board.specs.Deliver.{onAsk, onPut, discards, heard, finished, finishesEarly, turned, replied, onReply, acknowledged, onAck, onFrame, deliver};
 use crate::Answer;
 use crate::Board;
 use crate::refusals::NO_FRAME;
@@ -31,6 +31,7 @@ use parts::ConsoleId;
 use parts::Frame;
 use parts::NodeId;
 use parts::Outcome;
+use parts::Setup;
 use parts::State;
 use parts::Tag;
 use parts::answered::set_size;
@@ -126,10 +127,28 @@ fn take_reply(b: Board, c: ConsoleId, k: NodeId, reply: TakenIn) -> Answer
     if set_size(x.answered) < b.setup.ask_size() {
         return hear(how, b, c, k, x);
     }
+    if finishes_early(b.setup, x) {
+        return finish(how, b, c, k, x);
+    }
     if !has_next(x) {
         return Answer::refused(TS_USED_UP, b);
     }
     Answer::accepted_with(how, Outcome::Turned, turned_at(b, c, x))
+}
+
+// Whether a read finishes with the replies alone (document 02, Paper 4); x is the console with the reply taken in.
+fn finishes_early(setup: Setup, x: Console) -> bool
+    ensures { λ r. ⌜ r ≡ finishesEarly setup x ⌝ }
+{
+    let release = setup.release;
+    if !release.is_two() {
+        return false;
+    }
+    let s = x.state;
+    if s.is_writing() {
+        return false;
+    }
+    x.alike
 }
 
 // Question 10: whether a write's timestamp can grow; x is the console with the reply taken in.
@@ -173,12 +192,7 @@ fn take_ack(b: Board, c: ConsoleId, k: NodeId, x: Console) -> Answer
     if set_size(x.answered) < b.setup.tell_size() {
         return hear(Compared::None, b, c, k, x);
     }
-    let t = x.best;
-    let next = b.with_frame(c, k, Frame::Nothing);
-    Answer::accepted(
-        Outcome::Finished(t, x.value),
-        next.with_console(c, rest(State::Idle, x)),
-    )
+    finish(Compared::None, b, c, k, x)
 }
 
 // The cell empties, and console c is x.
@@ -190,6 +204,20 @@ fn hear(how: Compared, b: Board, c: ConsoleId, k: NodeId, x: Console) -> Answer
         how,
         Outcome::Heard,
         b.with_frame(c, k, Frame::Nothing).with_console(c, x),
+    )
+}
+
+// The cell empties, and console c, which is x, has finished its operation.
+fn finish(how: Compared, b: Board, c: ConsoleId, k: NodeId, x: Console) -> Answer
+    requires { ⌜ InRange b (c .0) (k .0) ⌝ }
+    ensures { λ r. ⌜ r ≡ finished how b (c .0) (k .0) x ⌝ }
+{
+    let t = x.best;
+    let next = b.with_frame(c, k, Frame::Nothing);
+    Answer::accepted_with(
+        how,
+        Outcome::Finished(t, x.value),
+        next.with_console(c, rest(State::Idle, x)),
     )
 }
 

@@ -8,6 +8,7 @@ pub use parts::Kind;
 pub use parts::Node;
 pub use parts::NodeId;
 pub use parts::Outcome;
+pub use parts::Release;
 pub use parts::Setup;
 pub use parts::State;
 pub use parts::Tag;

@@ -6,23 +6,25 @@ use native.Mathlib.Omega.{arith}
 use Rattle.parts.specs.AnsweredSet.{insert, member, size}
 use Rattle.parts.specs.Parts.{isTelling}
 use Rattle.parts.specs.Sizes.{tellSize}
+use Rattle.parts.specs.declared.Compared.the-variants.{None}
 use Rattle.parts.specs.declared.Console.{Console}
 use Rattle.parts.specs.declared.Frame.{Frame}
 use Rattle.parts.specs.declared.Frame.the-variants.{Ack, Nothing}
-use Rattle.parts.specs.declared.Outcome.the-variants.{Finished, Heard}
+use Rattle.parts.specs.declared.Outcome.the-variants.{Heard}
 use Rattle.parts.specs.declared.Setup.{Setup}
-use Rattle.parts.specs.declared.State.the-variants.{Idle}
-use Rattle.changes.specs.Changes.{acked, rests}
+use Rattle.changes.specs.Changes.{acked}
 use Rattle.board.specs.Answers.{answer}
-use Rattle.board.specs.Boards.{consoleAt, frameAt, nodeAt, withConsole, withFrame}
+use Rattle.board.specs.Boards.{consoleAt, frameAt, withConsole, withFrame}
+use Rattle.board.specs.Deliver.{finished}
 use Rattle.board.specs.declared.Board.{Board}
 use Rattle.guarantee.proofs.Tags.{key}
 use Rattle.guarantee.proofs.States.{tell-size-for, telling-waits}
-use Rattle.guarantee.proofs.Rows.{Held, RowOk, acked-floor, acked-row, finished-held, rest-row}
-use Rattle.guarantee.proofs.Boards.{BoardOk, TagKind, tags}
-use Rattle.guarantee.proofs.Consoles.{WaitsOk, acked-ok, rests-ok}
-use Rattle.guarantee.proofs.Spent.{earlier-telling, most, phase-le, spent, spent-heard}
-use Rattle.guarantee.proofs.Effects.{Delivery, Effect, change, console-going, console-is, console-ok, console-side, console-ups, ends-now, five, going, row-of, small-of, spentAt, waiting}
+use Rattle.guarantee.proofs.Rows.{Held, RowOk, acked-floor, acked-row, finished-held}
+use Rattle.guarantee.proofs.Boards.{TagKind, tags}
+use Rattle.guarantee.proofs.Consoles.{WaitsOk, acked-ok}
+use Rattle.guarantee.proofs.Spent.{spent, spent-heard}
+use Rattle.guarantee.proofs.Effects.{Delivery, Effect, change, console-going, console-ok, console-side, console-ups, five, going, row-of, spentAt, waiting}
+use Rattle.guarantee.proofs.Finishes.{finish-effect}
 
 module _ {K : TagKind} {σ : Setup} {b : Board} {c k : ℕ} (d : Delivery K σ b c k)
     (e : frameAt b c k ≡ Ack) (p : isTelling (consoleAt b c .state) ≡ true) (un : member (consoleAt b c .answered) k ≡ false) where
@@ -57,41 +59,15 @@ module _ {K : TagKind} {σ : Setup} {b : Board} {c k : ℕ} (d : Delivery K σ b
         (omega (arith, ack-spent)));
   }
 
-  abbrev idle-again : Console
-  idle-again = rests Idle x₁
+  ack-held : tellSize σ ≤ size (insert (consoleAt b c .answered) k) → Held σ (tags b) (key (consoleAt b c .best))
+  unfolding acked
+  ack-held all = finished-held σ x₁ row₁ (tags b) (five d) p all ack-row
 
-  finish-held : tellSize σ ≤ size (insert (consoleAt b c .answered) k) → Held σ (tags (withConsole (withFrame b c k Nothing) c idle-again)) (key (consoleAt b c .best))
-  unfolding nodeAt withConsole withFrame acked
-  finish-held all = finished-held σ x₁ row₁ (tags b) (five d) p all ack-row
-
-  finish-spends : spentAt σ b c + 1 ≤ most σ
-  unfolding spent
-  finish-spends = omega (arith, phase-le (σ .n) (consoleAt b c) (frameAt b c) (five d) (was-waiting .small), fewer, earlier-telling σ (consoleAt b c .state) p)
-
-  finish-row : RowOk σ idle-again row₁ (tags b)
-  unfolding rests
-  finish-row = rest-row σ idle-again row₁ (tags b) (five d) refl refl
-
-  finish-ok : BoardOk K σ (withConsole (withFrame b c k Nothing) c idle-again)
-  unfolding rests
-  finish-ok = console-ok d idle-again (d .fair .zero-in) (rests-ok σ x₁ .0) finish-row
-
-  finish-idle : consoleAt (withConsole (withFrame b c k Nothing) c idle-again) c .state ≡ Idle
-  unfolding rests
-  finish-idle = ap (λ (y : Console). y .state) (console-is d idle-again)
-
-  pub finish-effect : tellSize σ ≤ size (insert (consoleAt b c .answered) k)
-      → Effect K σ c b (answer (Finished (consoleAt b c .best) (consoleAt b c .value)) (withConsole (withFrame b c k Nothing) c idle-again))
-  finish-effect all = record {
-    ok = finish-ok;
-    beside = console-side d idle-again;
-    ups = console-ups d idle-again;
-    own = ends-now (record {
-      waits = telling-waits (consoleAt b c .state) p;
-      idle = finish-idle;
-      held = finish-held all;
-      floor = λ t g. g .tells p;
-      small = small-of d (consoleAt b c .best) (consoleAt b c .value) (d .ok .tagged .best c (d .c-m));
-      spends = finish-spends;
-    });
-  }
+  pub last-ack-effect : tellSize σ ≤ size (insert (consoleAt b c .answered) k) → Effect K σ c b (finished None b c k x₁)
+  unfolding acked
+  last-ack-effect all = finish-effect d x₁ None (record {
+    waits = telling-waits (consoleAt b c .state) p;
+    held = ack-held all;
+    floor = λ t g. g .tells p;
+    tagged = d .ok .tagged .best c (d .c-m);
+  })

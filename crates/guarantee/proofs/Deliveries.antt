@@ -15,13 +15,13 @@ use Rattle.board.specs.Boards.{consoleAt, frameAt}
 use Rattle.board.specs.declared.Answer.{Answer}
 use Rattle.board.specs.declared.Board.{Board}
 use Rattle.guarantee.proofs.Shapes.{m-is, n-is}
-use Rattle.guarantee.proofs.Views.{Delivered, Ranged, ask, drop-ack, drop-reply, finish, hear, hear-ack, into, no, out, put, turn}
+use Rattle.guarantee.proofs.Views.{Delivered, Ranged, ask, drop-ack, drop-reply, finish, finish-early, hear, hear-ack, into, no, out, put, turn}
 use Rattle.guarantee.proofs.Boards.{BoardOk, TagKind}
 use Rattle.guarantee.proofs.Consoles.{Fair}
 use Rattle.guarantee.proofs.Effects.{Delivery, Effect}
 use Rattle.guarantee.proofs.ToNode.{ask-effect, drop-ack-effect, drop-reply-effect, put-effect}
-use Rattle.guarantee.proofs.Replies.{hear-effect, turn-effect, turn-state}
-use Rattle.guarantee.proofs.Acks.{finish-effect, hear-ack-effect}
+use Rattle.guarantee.proofs.Replies.{early-effect, hear-effect, turn-effect, turn-state}
+use Rattle.guarantee.proofs.Acks.{hear-ack-effect, last-ack-effect}
 
 pub data StepEffect (K : TagKind) (σ : Setup) (c : ℕ) (b : Board) : Answer → Type 0 where
   refusal : {r : ℕ} → StepEffect K σ c b (refuse r b)
@@ -53,8 +53,9 @@ deliver-effect {K} {σ} fair b c k h chosen (into cm kn v) = go v chosen
     go (put {u} {v} e) _ = effect (d .c-m) (put-effect d u v e)
     go (hear {u} {v} e p i l) _ = effect (d .c-m) (hear-effect d u v e p i l)
     go (turn {u} {v} e p i l t) chosen = effect (d .c-m) (turn-effect d u v e p i (λ w. chosen (d .c-m) (d .k-n) u v e p w (turn-state d u v e p i) (t w)) (asked l))
+    go (finish-early {u} {v} e p i l y) _ = effect (d .c-m) (early-effect d u v e p i (asked l) y)
     go (hear-ack e p i l) _ = effect (d .c-m) (hear-ack-effect d e p i l)
-    go (finish e p i l) _ = effect (d .c-m) (finish-effect d e p i (told l))
+    go (finish e p i l) _ = effect (d .c-m) (last-ack-effect d e p i (told l))
     go (drop-reply e a) _ = effect (d .c-m) (drop-reply-effect d e a)
     go (drop-ack e a) _ = effect (d .c-m) (drop-ack-effect d e a)
 

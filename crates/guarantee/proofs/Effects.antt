@@ -20,12 +20,12 @@ use Rattle.board.specs.Boards.{consoleAt, frameAt, nodeAt, withConsole, withFra
 use Rattle.board.specs.declared.Answer.{Answer}
 use Rattle.board.specs.declared.Board.{Board}
 use Rattle.guarantee.proofs.Tags.{Small, key}
-use Rattle.guarantee.proofs.States.{waiting-cases}
+use Rattle.guarantee.proofs.States.{ask-size-for, tell-size-for, waiting-cases}
 use Rattle.guarantee.proofs.Shapes.{Shape, console-same, frame-beside, frame-same, shape-frame}
 use Rattle.guarantee.proofs.Rows.{Changed, Floor, Held, RowOk, ask-open, changed, tell-open}
 use Rattle.guarantee.proofs.Boards.{Beside, BoardOk, FrameHas, Passes, TagKind, beside-console, beside-frame, beside-trans, kept, same-floor, same-row, tags}
 use Rattle.guarantee.proofs.Consoles.{Fair, WaitsOk, tag-small, waits}
-use Rattle.guarantee.proofs.Spent.{most, spent}
+use Rattle.guarantee.proofs.Spent.{earlier-asking, earlier-telling, most, phase-le, spent}
 
 -- the floor under console c's operation, and its deliveries so far, on a board
 abbrev pub RowFloor : Setup → Board → ℕ → ℕ → Type 0
@@ -33,6 +33,18 @@ RowFloor σ b c t = Floor σ (consoleAt b c) (frameAt b c) (tags b) t
 
 abbrev pub spentAt : Setup → Board → ℕ → ℕ
 spentAt σ b c = spent σ (consoleAt b c) (frameAt b c)
+
+-- what a waiting console has spent is below the bound, since fewer have answered than end its phase
+pub spent-below : {K : TagKind} {σ : Setup} (b : Board) (c : ℕ) → BoardOk K σ b → c < σ .m → isWaiting (consoleAt b c .state) ≡ true → spentAt σ b c < most σ
+unfolding spent
+spent-below {K} {σ} b c h cm w = go (waiting-cases (consoleAt b c .state) w)
+  where
+    ws : WaitsOk σ (consoleAt b c .state) (consoleAt b c)
+    ws = waits σ (consoleAt b c) (consoleAt b c .state) (h .console-in c cm .state) w
+
+    go : (isAsking (consoleAt b c .state) ≡ true) ⊎ (isTelling (consoleAt b c .state) ≡ true) → spentAt σ b c < most σ
+    go (inl p) = omega (arith, earlier-asking σ (consoleAt b c .state) p, ask-size-for σ (consoleAt b c .state) p, phase-le (σ .n) (consoleAt b c) (frameAt b c) (h .shape .allowed .n-5) (ws .small), ws .fewer)
+    go (inr p) = omega (arith, earlier-telling σ (consoleAt b c .state) p, tell-size-for σ (consoleAt b c .state) p, phase-le (σ .n) (consoleAt b c) (frameAt b c) (h .shape .allowed .n-5) (ws .small), ws .fewer)
 
 -- the operation goes on in its phase, one delivery later
 pub record Going (σ : Setup) (c : ℕ) (b b′ : Board) : Type 0 where

@@ -37,7 +37,8 @@ pub record Inv (σ : Setup) (r : Run) : Type 0 where
   -- since the mark stays on only for a reply with best's tag.
   pub ok : BoardOk (Known σ (r .ops)) σ (r .board)
   -- Every operation is in order by itself. An open one has spent the weights of its row and what the earlier phase took at
-  -- most; a complete one's tag is held by a telling group, since that many nodes acknowledged it and no tag falls.
+  -- most; a complete one's tag is held by a telling group, since that many nodes acknowledged it, or replied with it where a read
+  -- finished early, and no tag falls.
   pub ops : All (OpOk σ (r .place) (r .board)) (r .ops)
   -- Of two operations, one's finish before the other's begin, the later is above the earlier: when it began a telling group
   -- held the earlier tag, and its asking group meets that one.

@@ -12,6 +12,7 @@ pub mod Boards
 pub mod Consoles
 pub mod Spent
 pub mod Effects
+pub mod Finishes
 pub mod ToNode
 pub mod Replies
 pub mod Acks

@@ -19,12 +19,12 @@ use Rattle.board.specs.Boards.{consoleAt, frameAt}
 use Rattle.board.specs.declared.Board.{Board}
 use Rattle.guarantee.specs.Log.{Complete, Lost, Op, Open, Status, counted, delivering, finishing, isOpen, losing, ofConsole, turning}
 use Rattle.guarantee.proofs.Tags.{Small, key}
-use Rattle.guarantee.proofs.States.{ask-size-for, contra, not-both, tell-size-for, telling-waits, turns, waiting-cases}
+use Rattle.guarantee.proofs.States.{contra, not-both, telling-waits, turns}
 use Rattle.guarantee.proofs.Rows.{Held, grow-floor}
 use Rattle.guarantee.proofs.Boards.{Beside, BoardOk, TagKind, same-floor, tags}
-use Rattle.guarantee.proofs.Consoles.{WaitsOk, waits}
-use Rattle.guarantee.proofs.Spent.{earlier, earlier-asking, earlier-telling, most, phase-le, spent, sum-same, weight}
-use Rattle.guarantee.proofs.Effects.{Ending, Going, Own, RowFloor, Turning, ends-now, five, goesOn, going, spentAt, turns-now}
+use Rattle.guarantee.proofs.Consoles.{waits}
+use Rattle.guarantee.proofs.Spent.{earlier, most, spent, sum-same, weight}
+use Rattle.guarantee.proofs.Effects.{Ending, Going, Own, RowFloor, Turning, ends-now, five, goesOn, going, spent-below, spentAt, turns-now}
 
 pub record OpOk (σ : Setup) (place : ℕ) (b : Board) (x : Op) : Type 0 where
   pub earlier : x .began < place
@@ -136,18 +136,6 @@ goes-counts i x Turned e = absurd (contra e refl)
 goes-counts i x (Finished t v) e = absurd (contra e refl)
 goes-counts i x Discarded e = refl
 
--- what a waiting console has spent is at most the bound
-spent-most : {K : TagKind} {σ : Setup} (b : Board) (c : ℕ) → BoardOk K σ b → c < σ .m → isWaiting (consoleAt b c .state) ≡ true → spentAt σ b c ≤ most σ
-unfolding spent
-spent-most {K} {σ} b c h cm w = go (waiting-cases (consoleAt b c .state) w)
-  where
-    ws : WaitsOk σ (consoleAt b c .state) (consoleAt b c)
-    ws = waits σ (consoleAt b c) (consoleAt b c .state) (h .console-in c cm .state) w
-
-    go : (isAsking (consoleAt b c .state) ≡ true) ⊎ (isTelling (consoleAt b c .state) ≡ true) → spentAt σ b c ≤ most σ
-    go (inl p) = omega (arith, earlier-asking σ (consoleAt b c .state) p, ask-size-for σ (consoleAt b c .state) p, phase-le (σ .n) (consoleAt b c) (frameAt b c) (h .shape .allowed .n-5) (ws .small), ws .fewer)
-    go (inr p) = omega (arith, earlier-telling σ (consoleAt b c .state) p, tell-size-for σ (consoleAt b c .state) p, phase-le (σ .n) (consoleAt b c) (frameAt b c) (h .shape .allowed .n-5) (ws .small), ws .fewer)
-
 -- ---- the open operation of the console that is delivered to
 
 module _ {K : TagKind} {σ : Setup} {place : ℕ} {b b′ : Board} (x : Op) (e : x .status ≡ Open) (h : OpOk σ place b x) (k : BoardOk K σ b′) where
@@ -162,7 +150,7 @@ module _ {K : TagKind} {σ : Setup} {place : ℕ} {b b′ : Board} (x : Op) (e :
     stays = λ q _. q;
     ok = record {
       earlier = omega (arith, h .earlier);
-      bound = omega (arith, spends, spent-most b′ (x .console) k (h .console-m) waits-on);
+      bound = omega (arith, spends, spent-below b′ (x .console) k (h .console-m) waits-on);
       console-m = h .console-m;
       waits = λ _. waits-on;
       writes = λ _. ap writes (g .state) ∙ h .writes e;
@@ -192,7 +180,7 @@ module _ {K : TagKind} {σ : Setup} {place : ℕ} {b b′ : Board} (x : Op) (e :
     stays = λ q _. q;
     ok = record {
       earlier = omega (arith, h .earlier);
-      bound = omega (arith, spends, spent-most b′ (x .console) k (h .console-m) waits-on);
+      bound = omega (arith, spends, spent-below b′ (x .console) k (h .console-m) waits-on);
       console-m = h .console-m;
       waits = λ _. waits-on;
       writes = λ _. ap writes (g .state) ∙ turns (consoleAt b (x .console) .state) (g .asked) .1 ∙ h .writes e;

@@ -20,7 +20,7 @@ use Rattle.parts.specs.declared.Setup.{Setup}
 use Rattle.parts.specs.declared.Tag.{Tag}
 use Rattle.changes.specs.Changes.{acked, awaits, hears, takesIn}
 use Rattle.board.specs.Boards.{consoleAt, frameAt, nodeAt}
-use Rattle.board.specs.Deliver.{acknowledged, deliver, discards, heard, onAck, onAsk, onFrame, onPut, onReply, replied, toNode}
+use Rattle.board.specs.Deliver.{acknowledged, deliver, discards, finished, finishesEarly, heard, onAck, onAsk, onFrame, onPut, onReply, replied, toNode}
 use Rattle.board.specs.Questions.{has-console, has-next-ts, has-node, holds-frame, is-well-formed, node-is-up}
 use Rattle.board.specs.Runs.{Deliver, step}
 use Rattle.board.specs.declared.Answer.{Answer}
@@ -48,14 +48,15 @@ Accepts a = accepted (a .outcome) ≡ true
 frame-taken : (b : Board) (c k : ℕ) (f : Frame) → nodeAt b k .up ≡ true
     → ((u : Tag) (v : ℕ) → f ≡ Reply u v → isAsking (consoleAt b c .state) ≡ true → writes (consoleAt b c .state) ≡ true → hears (consoleAt b c) k u v .best .ts < maxTs)
     → Accepts (onFrame b c k f)
-unfolding onFrame onAsk onPut toNode onReply onAck replied acknowledged heard discards awaits hears takesIn acked
+unfolding onFrame onAsk onPut toNode onReply onAck replied acknowledged heard finished discards awaits hears takesIn acked
 frame-taken b c k Nothing up below = refl
 frame-taken b c k Ask up below = all-yes Accepts (node-is-up b k ∷ []) b (up also none) refl
 frame-taken b c k (Put u v) up below = all-yes Accepts (node-is-up b k ∷ []) b (up also none) refl
 frame-taken b c k (Reply u v) up below = split-but Accepts (isAsking (consoleAt b c .state)) (member (consoleAt b c .answered) k)
     (λ p _. split Accepts (ltb (size (insert (consoleAt b c .answered) k)) (askSize (b .setup))) (λ _. refl)
+    (λ _. split Accepts (finishesEarly (b .setup) (hears (consoleAt b c) k u v)) (λ _. refl)
     (λ _. all-yes Accepts (has-next-ts (hears (consoleAt b c) k u v) ∷ []) b
-    (implies-of (writes (consoleAt b c .state)) (ltb (hears (consoleAt b c) k u v .best .ts) maxTs) (λ w. lt-ltb (hears (consoleAt b c) k u v .best .ts) maxTs (below u v refl p w)) also none) refl))
+    (implies-of (writes (consoleAt b c .state)) (ltb (hears (consoleAt b c) k u v .best .ts) maxTs) (λ w. lt-ltb (hears (consoleAt b c) k u v .best .ts) maxTs (below u v refl p w)) also none) refl)))
     (λ _. refl)
 frame-taken b c k Ack up below = split-but Accepts (isTelling (consoleAt b c .state)) (member (consoleAt b c .answered) k)
     (λ _ _. split Accepts (ltb (size (insert (consoleAt b c .answered) k)) (tellSize (b .setup))) (λ _. refl) (λ _. refl)) (λ _. refl)
@@ -76,7 +77,7 @@ module _ {σ : Setup} (r : Run) (h : Inv σ r) (few : writesBegun r ≤ maxTs) w
         (each-same (λ x _. refl) (h .ops)) (any-all (h .ops) (h .waits c cm (asking-waits (consoleAt (r .board) c .state) p))),
   )
 
-  pub progress : max (askSize σ) (tellSize σ) ≤ count (σ .n) (r .up) → (c : ℕ) → c < σ .m → isWaiting (consoleAt (r .board) c .state) ≡ true → HasDeliverable (σ .n) r c
+  pub progress : max (askSize σ) (tellSize σ) ≤ count (σ .n) (r .up) → (c : ℕ) → c < σ .m → isWaiting (consoleAt (r .board) c .state) ≡ true → HasDeliverable σ r c
   progress enough c cm w = go (differ (σ .n) (member (consoleAt b c .answered)) (r .up)
       (omega (arith, size-count (σ .n) (consoleAt b c .answered) (h .ok .shape .allowed .n-5) (ws .small), ws .fewer, enough, most-size (waiting-cases (consoleAt b c .state) w))))
     where
@@ -105,7 +106,7 @@ module _ {σ : Setup} (r : Run) (h : Inv σ r) (few : writesBegun r ≤ maxTs) w
         hears-kind (Known σ (r .ops)) (consoleAt b c) j u v (h .ok .tagged .best c cm) (reply-kind (record { fair = known-fair σ (r .ops) (h .ok .shape .allowed); ok = h .ok; c-m = cm; k-n = l }) e) .few,
       )
 
-      go : Differ (σ .n) (member (consoleAt b c .answered)) (r .up) → HasDeliverable (σ .n) r c
+      go : Differ (σ .n) (member (consoleAt b c .answered)) (r .up) → HasDeliverable σ r c
       go d = (
         d .0,
         d .1,

@@ -1,7 +1,7 @@
 -- The runs of specs/Reached.antt, by computation: P4 takes as many deliveries as the bound allows, a closed operation counts no
--- more, and with two of three nodes down there is no frame that can be delivered, and no majority, until one of them
--- comes back.
-use Prim.Native.Nat.{ℕ, _+_, _*_}
+-- more, with two of three nodes down there is no frame that can be delivered, and no majority, until one of them
+-- comes back, and a read finishes early under release 2 alone.
+use Prim.Native.Nat.{_+_, _*_}
 use mathlib.Core.List.{List, map, _∷_, []}
 use native.Mathlib.Omega.{arith}
 use mathlib.Core.Path.{refl, _≡_}
@@ -10,25 +10,27 @@ use Rattle.parts.specs.Finite.{count, every}
 use Rattle.parts.specs.Parts.{consoleIn, frameIn, nodeIn, place, setFrame, setRow}
 use Rattle.parts.specs.Sizes.{askSize, majority, tellSize}
 use Rattle.parts.specs.Tags.{compared, greater}
+use Rattle.parts.specs.declared.Release.the-variants.{One, Two}
+use Rattle.parts.specs.declared.Setup.{Setup}
 use Rattle.checks.specs.Clauses.{cellOk, cellsOk, consoleOk, consolesAllowed, consolesOk, frameOk, isZero, markOk, nodeOk, nodesAllowed, nodesOk, restOk, rowOk, setupOk, stateOk, tagOk, waitOk, wantedOk}
 use Rattle.changes.specs.Changes.{acked, asks, awaits, hears, nextTag, rests, stillAlike, taken, takesIn, tells, withUp}
 use Rattle.board.specs.Answers.{guarded}
 use Rattle.board.specs.Boards.{consoleAt, frameAt, freshBoard, nodeAt, withConsole, withFrame, withNode, withRow}
-use Rattle.board.specs.Deliver.{acknowledged, deliver, discards, heard, onAck, onAsk, onFrame, onPut, onReply, replied, toNode, turned}
+use Rattle.board.specs.Deliver.{acknowledged, deliver, discards, finished, finishesEarly, heard, onAck, onAsk, onFrame, onPut, onReply, replied, toNode, turned}
 use Rattle.board.specs.Runs.{Step, step}
-use Rattle.board.specs.Steps.{begin, begun, consoleDown, fresh, nodeDown, nodeUp}
+use Rattle.board.specs.Steps.{begin, begun, consoleDown, fresh, nodeDown, nodeUp, setupOf}
 use Rattle.board.specs.WellFormed.{wellFormed}
 use Rattle.guarantee.specs.Claim.{HasDeliverable, here}
 use Rattle.guarantee.specs.Log.{Run, after, next, noted, ofConsole, run, start, tally, upAfter, writesBegun}
-use Rattle.guarantee.specs.Reached.{all-back-refusals, all-back-steps, back-refusals, back-steps, late-log, late-steps, mixed-log, mixed-steps, p4-log, p4-steps, stuck-log, stuck-refusals, stuck-steps}
+use Rattle.guarantee.specs.Reached.{all-back-refusals, all-back-steps, back-refusals, back-steps, late-log, late-steps, loud-log, mixed-log, mixed-steps, p4-log, p4-steps, quiet-log, quiet-steps, stuck-log, stuck-refusals, stuck-steps}
 use Rattle.guarantee.proofs.Theorem.{demand-3}
 
 -- a run with every definition opened
-whole : ℕ → ℕ → List Step → Run
-unfolding run start after next noted upAfter ofConsole every count greater compared member insert size onlyBelow majority askSize tellSize nodeIn consoleIn frameIn place setFrame setRow nodesAllowed consolesAllowed setupOk isZero tagOk nodeOk nodesOk restOk wantedOk waitOk stateOk markOk consoleOk consolesOk frameOk cellOk rowOk cellsOk withUp taken rests asks awaits stillAlike hears takesIn nextTag tells acked nodeAt consoleAt frameAt withNode withConsole withFrame withRow freshBoard wellFormed guarded fresh begun begin nodeDown nodeUp consoleDown toNode onAsk onPut discards heard turned replied onReply acknowledged onAck onFrame deliver step
-whole n m ss = run n m ss
+whole : Setup → List Step → Run
+unfolding run start after next noted upAfter ofConsole every count greater compared member insert size onlyBelow majority askSize tellSize nodeIn consoleIn frameIn place setFrame setRow nodesAllowed consolesAllowed setupOk isZero tagOk nodeOk nodesOk restOk wantedOk waitOk stateOk markOk consoleOk consolesOk frameOk cellOk rowOk cellsOk withUp taken rests asks awaits stillAlike hears takesIn nextTag tells acked nodeAt consoleAt frameAt withNode withConsole withFrame withRow freshBoard wellFormed guarded fresh begun begin nodeDown nodeUp consoleDown toNode onAsk onPut discards heard finished finishesEarly turned replied onReply acknowledged onAck onFrame deliver step
+whole σ ss = run σ ss
 
-p4-reaches : whole 3 2 p4-steps .ops ≡ p4-log
+p4-reaches : whole (setupOf 3 2 One) p4-steps .ops ≡ p4-log
 unfolding whole p4-steps p4-log
 p4-reaches = refl
 
@@ -36,55 +38,63 @@ p4-bound : 2 * (3 + majority 3) ≡ 10
 unfolding majority
 p4-bound = refl
 
-late-uncounted : whole 3 2 late-steps .ops ≡ late-log
+late-uncounted : whole (setupOf 3 2 One) late-steps .ops ≡ late-log
 unfolding whole late-steps late-log
 late-uncounted = refl
 
-stuck-open : whole 3 1 stuck-steps .ops ≡ stuck-log
+stuck-open : whole (setupOf 3 1 One) stuck-steps .ops ≡ stuck-log
 unfolding whole stuck-steps stuck-log
 stuck-open = refl
 
-stuck-refused : map (λ k. deliver (whole 3 1 stuck-steps .board) 0 k .refusal) (0 ∷ 1 ∷ 2 ∷ []) ≡ stuck-refusals
+stuck-refused : map (λ k. deliver (whole (setupOf 3 1 One) stuck-steps .board) 0 k .refusal) (0 ∷ 1 ∷ 2 ∷ []) ≡ stuck-refusals
 unfolding whole stuck-steps stuck-refusals
 stuck-refused = refl
 
-stuck-up : count 3 (whole 3 1 stuck-steps .up) ≡ 1
+stuck-up : count 3 (whole (setupOf 3 1 One) stuck-steps .up) ≡ 1
 unfolding whole stuck-steps
 stuck-up = refl
 
-back-up : count 3 (whole 3 1 back-steps .up) ≡ majority 3
+back-up : count 3 (whole (setupOf 3 1 One) back-steps .up) ≡ majority 3
 unfolding whole back-steps majority
 back-up = refl
 
-back-open : whole 3 1 back-steps .ops ≡ stuck-log
+back-open : whole (setupOf 3 1 One) back-steps .ops ≡ stuck-log
 unfolding whole back-steps stuck-log
 back-open = refl
 
-back-refused : map (λ k. deliver (whole 3 1 back-steps .board) 0 k .refusal) (0 ∷ 1 ∷ 2 ∷ []) ≡ back-refusals
+back-refused : map (λ k. deliver (whole (setupOf 3 1 One) back-steps .board) 0 k .refusal) (0 ∷ 1 ∷ 2 ∷ []) ≡ back-refusals
 unfolding whole back-steps back-refusals
 back-refused = refl
 
-all-back-up : count 3 (whole 3 1 all-back-steps .up) ≡ 3
+all-back-up : count 3 (whole (setupOf 3 1 One) all-back-steps .up) ≡ 3
 unfolding whole all-back-steps
 all-back-up = refl
 
-all-back-refused : map (λ k. deliver (whole 3 1 all-back-steps .board) 0 k .refusal) (0 ∷ 1 ∷ 2 ∷ []) ≡ all-back-refusals
+all-back-refused : map (λ k. deliver (whole (setupOf 3 1 One) all-back-steps .board) 0 k .refusal) (0 ∷ 1 ∷ 2 ∷ []) ≡ all-back-refusals
 unfolding whole all-back-steps all-back-refusals
 all-back-refused = refl
 
 -- and so it must be, by demand 3
-back-goes-on : HasDeliverable 3 (whole 3 1 back-steps) 0
+back-goes-on : HasDeliverable (setupOf 3 1 One) (whole (setupOf 3 1 One) back-steps) 0
 unfolding whole back-steps writesBegun tally majority
-back-goes-on = demand-3 3 1 (omega arith) (omega arith) (omega arith) (omega arith) back-steps (omega arith) .progress (omega arith) 0 (here (refl, refl))
+back-goes-on = demand-3 (setupOf 3 1 One) (omega arith) (omega arith) (omega arith) (omega arith) back-steps (omega arith) .progress (omega arith) 0 (here (refl, refl))
 
-all-back-goes-on : HasDeliverable 3 (whole 3 1 all-back-steps) 0
+all-back-goes-on : HasDeliverable (setupOf 3 1 One) (whole (setupOf 3 1 One) all-back-steps) 0
 unfolding whole all-back-steps writesBegun tally majority
-all-back-goes-on = demand-3 3 1 (omega arith) (omega arith) (omega arith) (omega arith) all-back-steps (omega arith) .progress (omega arith) 0 (here (refl, refl))
+all-back-goes-on = demand-3 (setupOf 3 1 One) (omega arith) (omega arith) (omega arith) (omega arith) all-back-steps (omega arith) .progress (omega arith) 0 (here (refl, refl))
 
-mixed-logged : whole 1 2 mixed-steps .ops ≡ mixed-log
+mixed-logged : whole (setupOf 1 2 One) mixed-steps .ops ≡ mixed-log
 unfolding whole mixed-steps mixed-log
 mixed-logged = refl
 
-mixed-writes : writesBegun (whole 1 2 mixed-steps) ≡ 2
+mixed-writes : writesBegun (whole (setupOf 1 2 One) mixed-steps) ≡ 2
 unfolding whole mixed-steps writesBegun tally
 mixed-writes = refl
+
+quiet-early : whole (setupOf 3 2 Two) quiet-steps .ops ≡ quiet-log
+unfolding whole quiet-steps quiet-log
+quiet-early = refl
+
+loud-turned : whole (setupOf 3 2 One) quiet-steps .ops ≡ loud-log
+unfolding whole quiet-steps loud-log
+loud-turned = refl

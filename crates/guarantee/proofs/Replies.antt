@@ -1,11 +1,14 @@
--- A reply is taken in by an asking console: heard below the asking size, and at it the console turns.
+-- A reply is taken in by an asking console: heard below the asking size, and at it the console turns, or finishes early.
 use Prim.Native.Nat.{ℕ, _+_, _≤_, _<_}
-use mathlib.Core.Bool.{true, false}
+use mathlib.Core.Bool.{true, false, not}
 use mathlib.Core.Path.{refl, ap, _≡_}
 use native.Mathlib.Omega.{arith}
+use borrow.Author.Tests.{not-true}
 use lib.Dec.{eqb}
+use Rattle.parts.proofs.FiniteLaws.{and-left, and-right}
 use Rattle.parts.specs.AnsweredSet.{insert, member, size}
-use Rattle.parts.specs.Parts.{isAsking, toTelling, writes}
+use Rattle.parts.specs.Finite.{one}
+use Rattle.parts.specs.Parts.{isAsking, isTwo, toTelling, writes}
 use Rattle.parts.specs.Sizes.{askSize}
 use Rattle.parts.specs.Tags.{compared}
 use Rattle.parts.specs.declared.Console.{Console}
@@ -17,17 +20,28 @@ use Rattle.parts.specs.declared.Tag.{Tag}
 use Rattle.changes.specs.Changes.{hears, nextTag, tells}
 use Rattle.board.specs.Answers.{answerWith}
 use Rattle.board.specs.Boards.{consoleAt, frameAt, nodeAt, withConsole, withFrame, withRow}
-use Rattle.board.specs.Deliver.{turned}
+use Rattle.board.specs.Deliver.{finished, finishesEarly, turned}
 use Rattle.board.specs.declared.Board.{Board}
 use Rattle.guarantee.proofs.Sets.{insert-small}
 use Rattle.guarantee.proofs.Tags.{Small, key}
+use Rattle.guarantee.proofs.Sizes.{tell-le-ask}
 use Rattle.guarantee.proofs.States.{ask-size-for, asking-waits, turns}
 use Rattle.guarantee.proofs.Shapes.{console-same, row-beyond, row-same, shape-row}
-use Rattle.guarantee.proofs.Rows.{RowOk, heard-all, heard-backed, heard-floor, heard-row, turned-floor, turned-row}
+use Rattle.guarantee.proofs.Rows.{RowOk, early-held, heard-all, heard-backed, heard-floor, heard-row, turned-floor, turned-row}
 use Rattle.guarantee.proofs.Boards.{Beside, BoardOk, Passes, TagKind, beside-console, beside-row, beside-trans, kept, same-floor, same-row, tags}
 use Rattle.guarantee.proofs.Consoles.{WaitsOk, asking-zero, console-state, hears-kind, hears-ok, tells-kind, tells-ok}
 use Rattle.guarantee.proofs.Spent.{earlier, earlier-asking, earlier-telling, phase-le, spent, spent-heard}
 use Rattle.guarantee.proofs.Effects.{Delivery, Effect, RowFloor, c-8, change, console-going, console-ok, console-side, console-ups, five, going, reply-kind, row-of, small-of, spentAt, turns-now, waiting}
+use Rattle.guarantee.proofs.Finishes.{finish-effect}
+
+-- only a read finishes early, and only with the mark on; the release is of no account to what follows
+early-reads : (σ : Setup) (x : Console) → finishesEarly σ x ≡ true → writes (x .state) ≡ false
+unfolding finishesEarly
+early-reads σ x e = not-true (writes (x .state)) (and-left (not (writes (x .state))) (x .alike) (and-right (isTwo (σ .release)) _ e))
+
+early-alike : (σ : Setup) (x : Console) → finishesEarly σ x ≡ true → x .alike ≡ true
+unfolding finishesEarly
+early-alike σ x e = and-right (not (writes (x .state))) (x .alike) (and-right (isTwo (σ .release)) _ e)
 
 module _ {K : TagKind} {σ : Setup} {b : Board} {c k : ℕ} (d : Delivery K σ b c k)
     (u : Tag) (v : ℕ) (e : frameAt b c k ≡ Reply u v) (p : isAsking (consoleAt b c .state) ≡ true) (un : member (consoleAt b c .answered) k ≡ false) where
@@ -60,19 +74,39 @@ module _ {K : TagKind} {σ : Setup} {b : Board} {c k : ℕ} (d : Delivery K σ b
   unfolding spent hears
   hear-spent = omega (arith, spent-heard (σ .n) k (consoleAt b c .answered) (frameAt b c) row₁ (five d) (d .k-n) (was-waiting .small) un (rw e) (change d Nothing))
 
+  -- whether or not the asking ends with it
+  hear-row : RowOk σ x₁ row₁ (tags b)
+  hear-row = heard-row σ (five d) k (d .k-n) (consoleAt b c) u v (frameAt b c) row₁ (tags b) best-small reply-small (was-waiting .small) e (change d Nothing) none-yet p (row-of d)
+
+  -- once an asking group has answered, the operation's floor is under best
+  floor-heard : askSize σ ≤ size (insert (consoleAt b c .answered) k) → (t : ℕ) → RowFloor σ b c t → t ≤ key (x₁ .best)
+  unfolding hears
+  floor-heard all t g = heard-all σ (d .ok .shape .allowed) x₁ row₁ (tags b) t (insert-small (σ .n) (consoleAt b c .answered) k (five d) (was-waiting .small) (d .k-n)) all
+      (heard-backed σ (five d) k (d .k-n) (consoleAt b c) u v (frameAt b c) row₁ (tags b) best-small reply-small (was-waiting .small) e (change d Nothing) t (g .asks p))
+
   -- ---- heard
 
   pub hear-effect : size (insert (consoleAt b c .answered) k) < askSize (b .setup) → Effect K σ c b (answerWith (compared u (consoleAt b c .best)) Heard (withConsole (withFrame b c k Nothing) c x₁))
   unfolding hears
   hear-effect few = record {
-    ok = console-ok d x₁ heard-kind (hears-ok σ (consoleAt b c) k u v (five d) (d .k-n) p was-waiting un (omega (arith, few, ap askSize (d .ok .shape .setup-is))))
-        (heard-row σ (five d) k (d .k-n) (consoleAt b c) u v (frameAt b c) row₁ (tags b) best-small reply-small (was-waiting .small) e (change d Nothing) none-yet p (row-of d));
+    ok = console-ok d x₁ heard-kind (hears-ok σ (consoleAt b c) k u v (five d) (d .k-n) p was-waiting un (omega (arith, few, ap askSize (d .ok .shape .setup-is)))) hear-row;
     beside = console-side d x₁;
     ups = console-ups d x₁;
     own = going refl (console-going d x₁ refl
         (λ t. heard-floor σ (five d) k (d .k-n) (consoleAt b c) u v (frameAt b c) row₁ (tags b) best-small reply-small (was-waiting .small) e (change d Nothing) t p)
         hear-spent);
   }
+
+  -- ---- finished early
+
+  pub early-effect : askSize σ ≤ size (insert (consoleAt b c .answered) k) → finishesEarly (b .setup) x₁ ≡ true → Effect K σ c b (finished (compared u (consoleAt b c .best)) b c k x₁)
+  unfolding hears
+  early-effect all early = finish-effect d x₁ (compared u (consoleAt b c .best)) (record {
+    waits = asking-waits (consoleAt b c .state) p;
+    held = early-held σ x₁ row₁ (tags b) (five d) p (early-alike (b .setup) x₁ early) (omega (arith, all, tell-le-ask σ)) hear-row;
+    floor = λ t g. omega (arith, floor-heard all t g, ap one (early-reads (b .setup) x₁ early));
+    tagged = heard-kind;
+  })
 
   -- ---- turned
 
@@ -123,9 +157,7 @@ module _ {K : TagKind} {σ : Setup} {b : Board} {c k : ℕ} (d : Delivery K σ b
 
     turn-floor : (t : ℕ) → RowFloor σ b c t → RowFloor σ (turned b c x₁) c t
     unfolding nodeAt withConsole withRow turned hears
-    turn-floor t g = same-floor σ turn-console (λ _ _. refl) (turned-floor σ c x₁ (frameAt (turned b c x₁) c) (tags b) t p (small-of d (x₁ .best) (x₁ .value) heard-kind)
-        (heard-all σ (d .ok .shape .allowed) x₁ row₁ (tags b) t (insert-small (σ .n) (consoleAt b c .answered) k (five d) (was-waiting .small) (d .k-n)) all
-        (heard-backed σ (five d) k (d .k-n) (consoleAt b c) u v (frameAt b c) row₁ (tags b) best-small reply-small (was-waiting .small) e (change d Nothing) t (g .asks p))))
+    turn-floor t g = same-floor σ turn-console (λ _ _. refl) (turned-floor σ c x₁ (frameAt (turned b c x₁) c) (tags b) t p (small-of d (x₁ .best) (x₁ .value) heard-kind) (floor-heard all t g))
 
     turn-spends : spentAt σ b c + 1 ≤ spentAt σ (turned b c x₁) c
     unfolding spent

@@ -55,6 +55,9 @@ ask-not-put = elim [ ]
 replied-tag : {alike : Bool} {best tag : Tag} {a : Bool} {u : Tag} {v : ℕ} → AskFrame alike best tag a (Reply u v) → key u ≤ key tag
 replied-tag (replied-with h) = h
 
+had-tag : {alike : Bool} {best tag : Tag} {f : Frame} → alike ≡ true → AskFrame alike best tag true f → key best ≤ key tag
+had-tag on (had h) = h on
+
 took-tag : {best tag : Tag} {a : Bool} → TellFrame best tag a Ack → key best ≤ key tag
 took-tag (took h) = h
 
@@ -296,6 +299,16 @@ heard-all σ al x fr tg t small all g = go (meet (σ .n) (g .members) (member (x
     go : Meet (σ .n) (g .members) (member (x .answered)) → t ≤ key (x .best)
     go r = g .each (r .0) (r .1) (r .2) .told (r .3)
 
+-- the nodes that have answered hold best, and are enough for a telling group
+answered-held : (σ : Setup) (x : Console) (tg : ℕ → Tag) → σ .n ≤ 5 → x .answered < 2 ^ σ .n → tellSize σ ≤ size (x .answered)
+    → ((k : ℕ) → k < σ .n → member (x .answered) k ≡ true → key (x .best) ≤ key (tg k)) → Held σ tg (key (x .best))
+answered-held σ x tg five small all each = (member (x .answered), omega (arith, size-count (σ .n) (x .answered) five small), each)
+
+-- enough replies, and the mark is on: without being told
+pub early-held : (σ : Setup) (x : Console) (fr : ℕ → Frame) (tg : ℕ → Tag) → σ .n ≤ 5 → isAsking (x .state) ≡ true → x .alike ≡ true → tellSize σ ≤ size (x .answered) → RowOk σ x fr tg
+    → Held σ tg (key (x .best))
+early-held σ x fr tg five p on all h = answered-held σ x tg five (h .small) all (λ k l e. had-tag on (rw e at (h .asking p k l)))
+
 -- the console tells what it has heard, a write a higher tag
 pub turned-floor : (σ : Setup) (c : ℕ) (x : Console) (fr : ℕ → Frame) (tg : ℕ → Tag) (t : ℕ) → isAsking (x .state) ≡ true → Small (x .best) → t ≤ key (x .best)
     → Floor σ (tells c x) fr tg t
@@ -340,11 +353,7 @@ module _ (σ : Setup) (five : σ .n ≤ 5) (k : ℕ) (below : k < σ .n) (x : Co
 -- enough acks: a telling group holds best
 pub finished-held : (σ : Setup) (x : Console) (fr : ℕ → Frame) (tg : ℕ → Tag) → σ .n ≤ 5 → isTelling (x .state) ≡ true → tellSize σ ≤ size (x .answered) → RowOk σ x fr tg
     → Held σ tg (key (x .best))
-finished-held σ x fr tg five p all h = (
-  member (x .answered),
-  omega (arith, size-count (σ .n) (x .answered) five (h .small)),
-  λ k l e. has-tag (rw e at (h .telling p k l)),
-)
+finished-held σ x fr tg five p all h = answered-held σ x tg five (h .small) all (λ k l e. has-tag (rw e at (h .telling p k l)))
 
 -- ---- a console begins
 

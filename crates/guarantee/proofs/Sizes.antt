@@ -1,4 +1,5 @@
--- All that the proof uses of a setup: its numbers are in range, and the two sizes meet.
+-- All that the proof uses of a setup: its numbers are in range, the two sizes meet, and an asking group is no smaller than a
+-- telling group.
 use Prim.Native.Nat.{ℕ, _+_, _≤_, _<_}
 use native.Mathlib.Omega.{arith}
 use Rattle.parts.specs.Sizes.{askSize, majority, tellSize}
@@ -25,6 +26,11 @@ module _ {σ : Setup} (al : Allowed σ) where
   pub tell-pos : 0 < tellSize σ
   unfolding tellSize majority
   tell-pos = omega arith
+
+-- an asking group is large enough for a telling group: an early finish rests on it
+pub tell-le-ask : (σ : Setup) → tellSize σ ≤ askSize σ
+unfolding askSize tellSize
+tell-le-ask σ = omega arith
 
 -- how many answers end the phase of a console in this state
 abbrev pub sizeFor : Setup → State → ℕ

@@ -18,7 +18,7 @@ use Rattle.checks.specs.Clauses.{wantedOk}
 use Rattle.changes.specs.Changes.{hears, nextTag, rests, withUp}
 use Rattle.board.specs.Boards.{consoleAt, freshBoard, nodeAt, withConsole, withNode}
 use Rattle.board.specs.Runs.{BeginRead, BeginWrite, ConsoleDown, Deliver, NodeDown, NodeUp, Step, step}
-use Rattle.board.specs.Steps.{begun, fresh, setupOf}
+use Rattle.board.specs.Steps.{begun, fresh}
 use Rattle.board.specs.declared.Answer.{Answer}
 use Rattle.board.specs.declared.Board.{Board}
 use Rattle.guarantee.specs.Claim.{_also_, Any, OpenAt, here, none, there}
@@ -197,15 +197,15 @@ unfolding after
 inv-after [] r h = h
 inv-after (s ∷ ss) r h = inv-after ss (next r s) (inv-next r h s)
 
-pub inv-start : (n m : ℕ) → Allowed (setupOf n m) → Inv (setupOf n m) (start n m)
+pub inv-start : (σ : Setup) → Allowed σ → Inv σ (start σ)
 unfolding start
-inv-start n m al = record {
-  ok = rw made (fresh-ok (setupOf n m) (known-fair (setupOf n m) [] al) al);
+inv-start σ al = record {
+  ok = rw made (fresh-ok σ (known-fair σ [] al) al);
   ops = none;
   pairs = none;
-  waits = λ c l w. absurd (contra w (rw (made, fresh-console (setupOf n m) c)));
-  ups = λ j l. rw (made, fresh-node (setupOf n m) j);
+  waits = λ c l w. absurd (contra w (rw (made, fresh-console σ c)));
+  ups = λ j l. rw (made, fresh-node σ j);
 }
   where
-    made : fresh (setupOf n m) .board ≡ freshBoard (setupOf n m)
-    made = ap (λ (a : Answer). a .board) (fresh-made (setupOf n m) al)
+    made : fresh σ .board ≡ freshBoard σ
+    made = ap (λ (a : Answer). a .board) (fresh-made σ al)

@@ -7,7 +7,6 @@ use Rattle.parts.specs.Finite.{one}
 use Rattle.parts.specs.Parts.{place}
 use Rattle.parts.specs.Sizes.{askSize, majority, tellSize}
 use Rattle.parts.specs.declared.Setup.{Setup}
-use Rattle.board.specs.Steps.{setupOf}
 use Rattle.board.specs.declared.Board.{Board}
 use Rattle.guarantee.specs.Claim.{Claim, Demand3, FinishedBefore, Fresher, HasOpen, Waits, maxWrites}
 use Rattle.guarantee.specs.Log.{Op, Run, after, run, start, writesBegun}
@@ -28,27 +27,27 @@ fresh-pair x y hx hy p f =
     )
 
 -- the bound as demand 3 has it, and document 01's majority
-most-is : (n m : ℕ) → most (setupOf n m) ≡ 2 * (n + majority n)
+most-is : (σ : Setup) → most σ ≡ 2 * (σ .n + majority (σ .n))
 unfolding askSize tellSize
-most-is n m = omega arith
+most-is σ = omega arith
 
-larger-is : (n m : ℕ) → max (askSize (setupOf n m)) (tellSize (setupOf n m)) ≡ majority n
+larger-is : (σ : Setup) → max (askSize σ) (tellSize σ) ≡ majority (σ .n)
 unfolding askSize tellSize
-larger-is n m = omega arith
+larger-is σ = omega arith
 
-module _ (n m : ℕ) (r : Run) (h : Inv (setupOf n m) r) where
-  open-waiting : (c : ℕ) → HasOpen r c → Waits m r c
+module _ (σ : Setup) (r : Run) (h : Inv σ r) where
+  open-waiting : (c : ℕ) → HasOpen r c → Waits σ r c
   open-waiting c o = any-get (λ x z. (rw (z .1 .1) at (z .0 .console-m), rw (z .1 .1) at (z .0 .waits (z .1 .0)))) (any-all (h .ops) o)
 
-  claimed : writesBegun r ≤ maxWrites → Demand3 n m r
+  claimed : writesBegun r ≤ maxWrites → Demand3 σ r
   claimed few = record {
     open-waits = open-waiting;
     waits-open = λ c w. h .waits c (w .0) (w .1);
-    progress = λ up c o. progress r h few (omega (arith, up, larger-is n m)) c (open-waiting c o .0) (open-waiting c o .1);
-    bound = all-imp (λ x k. omega (arith, k .bound, most-is n m)) (h .ops);
+    progress = λ up c o. progress r h few (omega (arith, up, larger-is σ)) c (open-waiting c o .0) (open-waiting c o .1);
+    bound = all-imp (λ x k. omega (arith, k .bound, most-is σ)) (h .ops);
     freshness = all-imp (λ y q. all-imp (λ x z. fresh-pair x y (z .0) (q .0) (z .1)) (all-both (h .ops) (q .1))) (all-both (h .ops) (h .pairs));
   }
 
 pub demand-3 : Claim
 unfolding run
-demand-3 n m n-1 n-5 m-1 m-8 ss few = claimed n m (after (start n m) ss) (inv-after ss (start n m) (inv-start n m (record { n-1 = n-1; n-5 = n-5; m-1 = m-1; m-8 = m-8 }))) few
+demand-3 σ n-1 n-5 m-1 m-8 ss few = claimed σ (after (start σ) ss) (inv-after ss (start σ) (inv-start σ (record { n-1 = n-1; n-5 = n-5; m-1 = m-1; m-8 = m-8 }))) few

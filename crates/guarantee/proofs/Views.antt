@@ -12,10 +12,11 @@ use Rattle.parts.specs.Limits.{maxTs}
 use Rattle.parts.specs.Parts.{isAsking, isNothing, isTelling, writes}
 use Rattle.parts.specs.Sizes.{askSize, tellSize}
 use Rattle.parts.specs.Tags.{compared}
+use Rattle.parts.specs.declared.Compared.the-variants.{None}
 use Rattle.parts.specs.declared.Frame.{Frame}
 use Rattle.parts.specs.declared.Frame.the-variants.{Ack, Ask, Nothing, Put, Reply}
 use Rattle.parts.specs.declared.Kind.{Kind}
-use Rattle.parts.specs.declared.Outcome.the-variants.{Discarded, Done, Finished, Handed, Heard, Turned}
+use Rattle.parts.specs.declared.Outcome.the-variants.{Discarded, Done, Handed, Heard, Turned}
 use Rattle.parts.specs.declared.Setup.{Setup}
 use Rattle.parts.specs.declared.State.the-variants.{Down, Idle}
 use Rattle.parts.specs.declared.Tag.{Tag}
@@ -23,7 +24,7 @@ use Rattle.checks.specs.Clauses.{consolesAllowed, nodesAllowed}
 use Rattle.changes.specs.Changes.{acked, awaits, hears, rests, taken, takesIn, withUp}
 use Rattle.board.specs.Answers.{Question, answer, answerWith, guarded, refuse}
 use Rattle.board.specs.Boards.{consoleAt, frameAt, freshBoard, nodeAt, withConsole, withFrame, withNode}
-use Rattle.board.specs.Deliver.{acknowledged, deliver, discards, heard, onAck, onAsk, onFrame, onPut, onReply, replied, toNode, turned}
+use Rattle.board.specs.Deliver.{acknowledged, deliver, discards, finished, finishesEarly, heard, onAck, onAsk, onFrame, onPut, onReply, replied, toNode, turned}
 use Rattle.board.specs.Questions.{console-is-idle, console-is-up, has-allowed-consoles, has-allowed-nodes, has-console, has-next-ts, has-node, holds-frame, is-well-formed, node-is-down, node-is-up}
 use Rattle.board.specs.Steps.{begin, begun, consoleDown, fresh, nodeDown, nodeUp, smallest}
 use Rattle.board.specs.declared.Answer.{Answer}
@@ -62,12 +63,16 @@ pub data Delivered (b : Board) (c k : ℕ) : Answer → Type 0 where
       → askSize (b .setup) ≤ size (insert (consoleAt b c .answered) k)
       → (writes (consoleAt b c .state) ≡ true → hears (consoleAt b c) k u v .best .ts < maxTs)
       → Delivered b c k (answerWith (compared u (consoleAt b c .best)) Turned (turned b c (hears (consoleAt b c) k u v)))
+  finish-early : {u : Tag} {v : ℕ} → frameAt b c k ≡ Reply u v → isAsking (consoleAt b c .state) ≡ true → member (consoleAt b c .answered) k ≡ false
+      → askSize (b .setup) ≤ size (insert (consoleAt b c .answered) k)
+      → finishesEarly (b .setup) (hears (consoleAt b c) k u v) ≡ true
+      → Delivered b c k (finished (compared u (consoleAt b c .best)) b c k (hears (consoleAt b c) k u v))
   hear-ack : frameAt b c k ≡ Ack → isTelling (consoleAt b c .state) ≡ true → member (consoleAt b c .answered) k ≡ false
       → size (insert (consoleAt b c .answered) k) < tellSize (b .setup)
       → Delivered b c k (answer Heard (withConsole (withFrame b c k Nothing) c (acked (consoleAt b c) k)))
   finish : frameAt b c k ≡ Ack → isTelling (consoleAt b c .state) ≡ true → member (consoleAt b c .answered) k ≡ false
       → tellSize (b .setup) ≤ size (insert (consoleAt b c .answered) k)
-      → Delivered b c k (answer (Finished (consoleAt b c .best) (consoleAt b c .value)) (withConsole (withFrame b c k Nothing) c (rests Idle (acked (consoleAt b c) k))))
+      → Delivered b c k (finished None b c k (acked (consoleAt b c) k))
   drop-reply : {u : Tag} {v : ℕ} → frameAt b c k ≡ Reply u v → (isAsking (consoleAt b c .state) ≡ true → member (consoleAt b c .answered) k ≡ true)
       → Delivered b c k (answer Discarded (withFrame b c k Nothing))
   drop-ack : frameAt b c k ≡ Ack → (isTelling (consoleAt b c .state) ≡ true → member (consoleAt b c .answered) k ≡ true)
@@ -90,9 +95,11 @@ module _ (b : Board) (c k : ℕ) where
   view-frame (Reply u v) n e = split-but P (isAsking (consoleAt b c .state)) (member (consoleAt b c .answered) k)
       (λ p i. split P (ltb (size (insert (consoleAt b c .answered) k)) (askSize (b .setup)))
       (λ l. hear e p i (omega (arith, ltb-true)))
-      (λ l. questions P (has-next-ts (hears (consoleAt b c) k u v) ∷ []) (λ _. no)
+      (λ l. split P (finishesEarly (b .setup) (hears (consoleAt b c) k u v))
+      (λ y. finish-early e p i (omega (arith, ltb-false)) y)
+      (λ _. questions P (has-next-ts (hears (consoleAt b c) k u v) ∷ []) (λ _. no)
       (λ y. turn e p i (omega (arith, ltb-false))
-      (λ w. ltb-true (hears (consoleAt b c) k u v .best .ts) maxTs (implied (writes (consoleAt b c .state)) _ (all-head y) w)))))
+      (λ w. ltb-true (hears (consoleAt b c) k u v .best .ts) maxTs (implied (writes (consoleAt b c .state)) _ (all-head y) w))))))
       (λ t. drop-reply e t)
   view-frame Ack n e = split-but P (isTelling (consoleAt b c .state)) (member (consoleAt b c .answered) k)
       (λ p i. split P (ltb (size (insert (consoleAt b c .answered) k)) (tellSize (b .setup)))

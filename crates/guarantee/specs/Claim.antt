@@ -1,5 +1,5 @@
--- Demand 3, as document 01's 'What demand 3 speaks of' and document 02's Paper 2 read it: one claim about every run from a
--- fresh board of any allowed size. proofs/Theorem.antt proves it.
+-- Demand 3, as document 01's 'What demand 3 speaks of' and document 02's Papers 2 and 4 read it: one claim about every run from
+-- a fresh board of any allowed size, under either release. proofs/Theorem.antt proves it.
 use Prim.Native.Nat.{ℕ, _+_, _*_, _≤_, _<_}
 use mathlib.Core.Bool.{true, false}
 use mathlib.Core.List.{List, [], _∷_}
@@ -9,6 +9,7 @@ use Rattle.parts.specs.Tags.{greater}
 use Rattle.parts.specs.Limits.{maxNodes, maxConsoles}
 use Rattle.parts.specs.Sizes.{majority}
 use Rattle.parts.specs.Parts.{isWaiting}
+use Rattle.parts.specs.declared.Setup.{Setup}
 use Rattle.board.specs.Boards.{consoleAt}
 use Rattle.board.specs.Runs.{Step, Deliver, step}
 use Rattle.guarantee.specs.Log.{Op, Open, Complete, accepted, Run, run, writesBegun}
@@ -32,13 +33,13 @@ abbrev pub HasOpen : Run → ℕ → Type 0
 HasOpen r c = Any (OpenAt c) (r .ops)
 
 -- console c is one of the m consoles, and waits
-abbrev pub Waits : ℕ → Run → ℕ → Type 0
-Waits m r c = (c < m) × (isWaiting (consoleAt (r .board) c .state) ≡ true)
+abbrev pub Waits : Setup → Run → ℕ → Type 0
+Waits σ r c = (c < σ .m) × (isWaiting (consoleAt (r .board) c .state) ≡ true)
 
 -- a console 'has a frame that can be delivered if, for some node, a deliver of that console and node as the next step
 -- would be accepted'
-abbrev pub HasDeliverable : ℕ → Run → ℕ → Type 0
-HasDeliverable n r c = (k : ℕ) × (k < n) × (accepted (step (r .board) (Deliver c k) .outcome) ≡ true)
+abbrev pub HasDeliverable : Setup → Run → ℕ → Type 0
+HasDeliverable σ r c = (k : ℕ) × (k < σ .n) × (accepted (step (r .board) (Deliver c k) .outcome) ≡ true)
 
 -- two finished operations, 'one's finish before the other's begin'
 abbrev pub FinishedBefore : Op → Op → Type 0
@@ -48,15 +49,16 @@ FinishedBefore x y = (x .status ≡ Complete) × (y .status ≡ Complete) × (x 
 abbrev pub Fresher : Op → Op → Type 0
 Fresher x y = (greater (x .tag) (y .tag) ≡ false) × (y .wrote ≡ true → greater (y .tag) (x .tag) ≡ true)
 
-pub record Demand3 (n m : ℕ) (r : Run) : Type 0 where
+-- σ has n, m and the release; no rule speaks of the release
+pub record Demand3 (σ : Setup) (r : Run) : Type 0 where
   -- 'The consoles with an operation open are exactly the waiting ones'
-  pub open-waits : (c : ℕ) → HasOpen r c → Waits m r c
-  pub waits-open : (c : ℕ) → Waits m r c → HasOpen r c
+  pub open-waits : (c : ℕ) → HasOpen r c → Waits σ r c
+  pub waits-open : (c : ℕ) → Waits σ r c → HasOpen r c
   -- 'every console with an operation open has a frame that can be delivered, if a majority of the machines is up'; 'the
   -- progress rule's majority is now q or more machines up at the list's end'
-  pub progress : majority n ≤ count n (r .up) → (c : ℕ) → HasOpen r c → HasDeliverable n r c
+  pub progress : majority (σ .n) ≤ count (σ .n) (r .up) → (c : ℕ) → HasOpen r c → HasDeliverable σ r c
   -- 'every operation has taken at most 2(n + q) accepted deliveries .. from begin to finish, or so far if unfinished'
-  pub bound : All (λ x. x .took ≤ 2 * (n + majority n)) (r .ops)
+  pub bound : All (λ x. x .took ≤ 2 * (σ .n + majority (σ .n))) (r .ops)
   -- 'every finished operation's final tag is no lower than that of any operation finished before it began, and higher if
   -- it wrote'
   pub freshness : All (λ y. All (λ x. FinishedBefore x y → Fresher x y) (r .ops)) (r .ops)
@@ -66,6 +68,6 @@ abbrev pub maxWrites : ℕ
 maxWrites = 4000000000
 
 -- 'For every list of begin reads, begin writes, deliveries, node downs and console downs', and node ups, 'refused ones
--- included, from a fresh board of any allowed size'
+-- included, from a fresh board of any allowed size'. 'Demand 3's three rules cover both releases'
 abbrev pub Claim : Type 0
-Claim = (n m : ℕ) → 1 ≤ n → n ≤ maxNodes → 1 ≤ m → m ≤ maxConsoles → (ss : List Step) → writesBegun (run n m ss) ≤ maxWrites → Demand3 n m (run n m ss)
+Claim = (σ : Setup) → 1 ≤ σ .n → σ .n ≤ maxNodes → 1 ≤ σ .m → σ .m ≤ maxConsoles → (ss : List Step) → writesBegun (run σ ss) ≤ maxWrites → Demand3 σ (run σ ss)

@@ -1,9 +1,10 @@
--- A run and its log: document 01, 'What demand 3 speaks of', with node up (document 02, Paper 2). The log is built from the
--- steps and their answers alone.
+-- A run and its log: document 01, 'What demand 3 speaks of', with node up (document 02, Paper 2), under either release (Paper 4).
+-- The log is built from the steps and their answers alone.
 use Prim.Native.Nat.{ℕ, _+_}
 use mathlib.Core.Bool.{Bool, true, false, cond, _&&_}
 use mathlib.Core.List.{List, [], _∷_, map}
 use lib.Dec.{eqb}
+use Rattle.parts.specs.declared.Setup.{Setup}
 use Rattle.parts.specs.declared.Tag.{Tag}
 use Rattle.parts.specs.Finite.{one}
 use Rattle.parts.specs.Tags.{zeroTag}
@@ -11,7 +12,7 @@ use Rattle.board.specs.declared.Board.{Board}
 use Rattle.parts.specs.declared.Outcome.{Outcome}
 use Rattle.parts.specs.declared.Outcome.the-variants.{Refused, Done, Handed, Heard, Turned, Finished, Discarded}
 use Rattle.board.specs.declared.Answer.{Answer}
-use Rattle.board.specs.Steps.{setupOf, fresh}
+use Rattle.board.specs.Steps.{fresh}
 use Rattle.board.specs.Runs.{Step, BeginRead, BeginWrite, Deliver, NodeDown, ConsoleDown, NodeUp, step}
 
 -- ---- operations
@@ -133,12 +134,12 @@ after r [] = r
 after r (s ∷ ss) = after (next r s) ss
 
 -- 'on the board that fresh made'
-unfoldable pub start : ℕ → ℕ → Run
-start n m = record { place = 1; board = fresh (setupOf n m) .board; ops = []; up = λ _. true }
+unfoldable pub start : Setup → Run
+start σ = record { place = 1; board = fresh σ .board; ops = []; up = λ _. true }
 
 -- 'A run from a fresh board is a list of the five kinds of step'; node up 'joins the five'
-unfoldable pub run : ℕ → ℕ → List Step → Run
-run n m ss = after (start n m) ss
+unfoldable pub run : Setup → List Step → Run
+run σ ss = after (start σ) ss
 
 -- how many operations of the log pass the test
 unfoldable pub tally : (Op → Bool) → List Op → ℕ

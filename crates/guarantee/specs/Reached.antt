@@ -111,3 +111,38 @@ mixed-log =
     ∷ record { console = 0; wrote = false; began = 8; took = 4; turned = true; status = Complete; ended = 12; tag = one-zero; value = 5 }
     ∷ record { console = 0; wrote = true; began = 1; took = 4; turned = true; status = Complete; ended = 6; tag = one-zero; value = 5 }
     ∷ []
+
+-- on three nodes and two consoles, under release 2: P2's write, then a read whose two replies agree, with all its asks delivered
+-- before: 3 + 2 deliveries, n + q. The reply that is left counts no more
+unfoldable pub quiet-steps : List Step
+quiet-steps =
+    BeginWrite 1 7
+    ∷ Deliver 1 0
+    ∷ Deliver 1 0
+    ∷ Deliver 1 2
+    ∷ Deliver 1 2
+    ∷ Deliver 1 0
+    ∷ Deliver 1 0
+    ∷ Deliver 1 2
+    ∷ Deliver 1 2
+    ∷ BeginRead 0
+    ∷ Deliver 0 0
+    ∷ Deliver 0 1
+    ∷ Deliver 0 2
+    ∷ Deliver 0 0
+    ∷ Deliver 0 2
+    ∷ Deliver 0 1
+    ∷ []
+
+unfoldable pub quiet-log : List Op
+quiet-log =
+    record { console = 0; wrote = false; began = 10; took = 5; turned = false; status = Complete; ended = 15; tag = one-one; value = 7 }
+    ∷ record { console = 1; wrote = true; began = 1; took = 8; turned = true; status = Complete; ended = 9; tag = one-one; value = 7 }
+    ∷ []
+
+-- under release 1 the same steps leave the read open: it has turned, and the last delivery hands a put to node 1
+unfoldable pub loud-log : List Op
+loud-log =
+    record { console = 0; wrote = false; began = 10; took = 6; turned = true; status = Open; ended = 0; tag = zeroTag; value = 0 }
+    ∷ record { console = 1; wrote = true; began = 1; took = 8; turned = true; status = Complete; ended = 9; tag = one-one; value = 7 }
+    ∷ []

@@ -1,4 +1,4 @@
--- The parts of a fresh board, the cases of states and frames, and where a part stands in its list.
+-- The parts of a fresh board, the cases of releases, states and frames, and where a part stands in its list.
 use Prim.Native.Nat.{ℕ, zero, suc, _+_, _*_}
 use mathlib.Core.Bool.{Bool, true, false}
 use mathlib.Core.List.{List}
@@ -12,6 +12,8 @@ use Rattle.parts.specs.declared.Kind.the-variants.{Read, Write}
 use Rattle.parts.specs.declared.State.{State}
 use Rattle.parts.specs.declared.State.the-variants.{Idle, Asking, Telling, Down}
 use Rattle.parts.specs.declared.Console.{Console}
+use Rattle.parts.specs.declared.Release.{Release}
+use Rattle.parts.specs.declared.Release.the-variants.{One, Two}
 use Rattle.parts.specs.Limits.{maxNodes}
 use Rattle.parts.specs.Tags.{zeroTag}
 
@@ -27,6 +29,12 @@ idleConsole = record { state = Idle; wanted = 0; answered = 0; best = zeroTag; v
 
 abbrev pub cellOf : Frame → Cell
 cellOf f = record { frame = f }
+
+-- ---- the cases of a release
+
+abbrev pub isTwo : Release → Bool
+isTwo One = false
+isTwo Two = true
 
 -- ---- the cases of a frame
 

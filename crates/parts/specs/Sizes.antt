@@ -6,7 +6,7 @@ use Rattle.parts.specs.declared.Setup.{Setup}
 unfoldable pub majority : ℕ → ℕ
 majority n = n / 2 + 1
 
--- the count of answers at which asking turns to telling
+-- the count of answers at which asking ends
 unfoldable pub askSize : Setup → ℕ
 askSize σ = majority (σ .n)
 

@@ -1,9 +1,21 @@
-// The cases of an operation's kind, of a console's state and of a frame.
+// The cases of a release, of an operation's kind, of a console's state and of a frame.
 ghost use mathlib.Core.Path.{_≡_};
-ghost use Rattle.parts.specs.Parts.{isNothing, isIdle, isAsking, isTelling, isUp, isWrite, writes, toTelling};
+ghost use Rattle.parts.specs.Parts.{isNothing, isIdle, isAsking, isTelling, isUp, isWrite, writes, toTelling, isTwo};
 use crate::Frame;
 use crate::Kind;
+use crate::Release;
 use crate::State;
+
+impl Release {
+    pub fn is_two(self) -> bool
+        ensures { λ r. ⌜ r ≡ isTwo self ⌝ }
+    {
+        match self {
+            Release::One => false,
+            Release::Two => true,
+        }
+    }
+}
 
 impl Kind {
     pub fn is_write(self) -> bool

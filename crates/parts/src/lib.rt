@@ -75,8 +75,15 @@ pub struct Console {
     pub value: u32,
 }
 
-// What a board is made with: document 01's n, the nodes, and m, the consoles.
+// The release that a board is made under and keeps (document 02, Paper 4). From release 2 on a read may finish early.
+pub enum Release {
+    One,
+    Two,
+}
+
+// What a board is made with: its release, and document 01's n, the nodes, and m, the consoles.
 pub struct Setup {
+    pub release: Release,
     pub n: u32,
     pub m: u32,
 }

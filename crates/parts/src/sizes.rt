@@ -11,7 +11,7 @@ pub fn majority_of(n: u32) -> u32
 }
 
 impl Setup {
-    // The count of answers at which asking turns to telling.
+    // The count of answers at which asking ends.
     pub fn ask_size(self) -> u32
         ensures { λ r. ⌜ r ≡ askSize self ⌝ }
     {

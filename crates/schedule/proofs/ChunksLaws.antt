@@ -11,7 +11,7 @@ use lib.Seq.{take-all, take-length, take-suc, take-add, sets}
 use Rattle.board.specs.declared.Board.{Board}
 use Rattle.board.specs.Answers.{guarded}
 use Rattle.board.specs.Boards.{freshBoard}
-use Rattle.board.specs.Steps.{setupOf, smallest, fresh}
+use Rattle.board.specs.Steps.{smallest, fresh}
 use Rattle.checks.specs.Clauses.{nodesAllowed, consolesAllowed}
 use Rattle.bytes.specs.Bytes.{indexOf, indexAfter, slice}
 use Rattle.lines.specs.Lines.{lfByte}
@@ -163,7 +163,7 @@ taken-as s t line out c d r line' out' e f u =
 
 -- ---- the beginning and the end
 
-pub first-board : fresh (setupOf 1 1) .board ≡ freshBoard smallest
+pub first-board : fresh smallest .board ≡ freshBoard smallest
 unfolding fresh guarded nodesAllowed consolesAllowed
 first-board = refl
 

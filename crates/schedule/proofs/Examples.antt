@@ -17,7 +17,7 @@ use Rattle.board.specs.Boards.{nodeAt, consoleAt, frameAt, withNode, withConsol
 use Rattle.board.specs.WellFormed.{wellFormed}
 use Rattle.board.specs.Answers.{guarded}
 use Rattle.board.specs.Steps.{fresh, begun, begin, nodeDown, nodeUp, consoleDown}
-use Rattle.board.specs.Deliver.{toNode, onAsk, onPut, discards, heard, turned, replied, onReply, acknowledged, onAck, onFrame, deliver}
+use Rattle.board.specs.Deliver.{toNode, onAsk, onPut, discards, heard, finished, finishesEarly, turned, replied, onReply, acknowledged, onAck, onFrame, deliver}
 use Rattle.verbs.specs.Verbs.{stepOf}
 use Rattle.schedule.specs.Schedule.{answerOf, boardAfter, rowOf, effectOf, nextNumber, outputOf, scheduleText}
 
@@ -47,5 +47,5 @@ examples =
     ∷ []
 
 pub schedules-printed : map (λ x. scheduleText (bytes (x .input))) examples ≡ map (λ x. bytes (x .must)) examples
-unfolding bytes indexOf countOf fromField quoted unquoted fieldOf allDigits valueFrom numOf lineOf digits decimal joined lineText chop linesAfter every count greater compared member insert size onlyBelow majority askSize tellSize nodeIn consoleIn frameIn place setFrame setRow nodesAllowed consolesAllowed setupOk isZero tagOk nodeOk nodesOk restOk wantedOk waitOk stateOk markOk consoleOk consolesOk frameOk cellOk rowOk cellsOk withUp taken rests asks awaits stillAlike hears takesIn nextTag tells acked nodeAt consoleAt frameAt withNode withConsole withFrame withRow freshBoard wellFormed guarded fresh begun begin nodeDown nodeUp consoleDown toNode onAsk onPut discards heard turned replied onReply acknowledged onAck onFrame deliver stepOf answerOf boardAfter rowOf effectOf nextNumber outputOf scheduleText examples
+unfolding bytes indexOf countOf fromField quoted unquoted fieldOf allDigits valueFrom numOf lineOf digits decimal joined lineText chop linesAfter every count greater compared member insert size onlyBelow majority askSize tellSize nodeIn consoleIn frameIn place setFrame setRow nodesAllowed consolesAllowed setupOk isZero tagOk nodeOk nodesOk restOk wantedOk waitOk stateOk markOk consoleOk consolesOk frameOk cellOk rowOk cellsOk withUp taken rests asks awaits stillAlike hears takesIn nextTag tells acked nodeAt consoleAt frameAt withNode withConsole withFrame withRow freshBoard wellFormed guarded fresh begun begin nodeDown nodeUp consoleDown toNode onAsk onPut discards heard finished finishesEarly turned replied onReply acknowledged onAck onFrame deliver stepOf answerOf boardAfter rowOf effectOf nextNumber outputOf scheduleText examples
 schedules-printed = refl

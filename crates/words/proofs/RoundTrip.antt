@@ -10,6 +10,8 @@ use borrow.Author.Tests.{eqb-true, eqb-false}
 use lib.Dec.{eqb}
 use lib.ListN.{length, getD, set, replicate, length-set}
 use lib.Seq.{getD-set-same, getD-set-other, ext-getD}
+use Rattle.parts.specs.declared.Release.{Release}
+use Rattle.parts.specs.declared.Release.the-variants.{One, Two}
 use Rattle.parts.specs.declared.Frame.{Frame}
 use Rattle.parts.specs.declared.Frame.the-variants.{Nothing, Ask, Reply, Put, Ack}
 use Rattle.parts.specs.declared.Cell.{Cell}
@@ -21,7 +23,7 @@ use Rattle.parts.specs.declared.Console.{Console}
 use Rattle.parts.specs.Finite.{one}
 use Rattle.parts.specs.Parts.{freshNode, idleConsole, cellOf}
 use Rattle.board.specs.declared.Board.{Board}
-use Rattle.words.specs.Words.{Byte, Bytes, boardWords, word, nodePlace, consolePlace, cellPlace, nodeFrom, stateOf, consoleFrom, frameOf, cellFrom, allFrom, decoded, putFour, putNode, stateNumber, putConsole, frameNumber, frameTag, frameValue, putCell, putAll, putNodes, putConsoles, putCells, encoded}
+use Rattle.words.specs.Words.{Byte, Bytes, boardWords, word, nodePlace, consolePlace, cellPlace, releaseOf, nodeFrom, stateOf, consoleFrom, frameOf, cellFrom, allFrom, decoded, releaseNumber, putFour, putNode, stateNumber, putConsole, frameNumber, frameTag, frameValue, putCell, putAll, putNodes, putConsoles, putCells, encoded}
 
 -- ---- one kind of part: s words each
 
@@ -32,25 +34,29 @@ pub record Part (A : Type 0) (s : ℕ) (Fits : A → Type 0) (from : List ℕ �
   pub long : (w : List ℕ) (p : ℕ) (x : A) → length (put w p x) ≡ length w
   pub reads : (w v : List ℕ) (p : ℕ) → ((i : ℕ) → p ≤ i → i < p + s → word w i ≡ word v i) → from w p ≡ from v p
 
--- parts from a on, at places that do not overlap
+-- parts at places that do not overlap
 module _ {A : Type 0} {s : ℕ} {Fits : A → Type 0} {from : List ℕ → ℕ → A} {put : List ℕ → ℕ → A → List ℕ} (part : Part A s Fits from put)
-    (a : ℕ) (place : ℕ → ℕ) (low : (k : ℕ) → a ≤ place k) (apart : (k n : ℕ) → k < n → place k + s ≤ place n) (d : A) (xs : List A) where
+    (place : ℕ → ℕ) (apart : (k n : ℕ) → k < n → place k + s ≤ place n) (d : A) (xs : List A) where
+  low : (k : ℕ) → place 0 ≤ place k
+  low zero = omega arith
+  low (suc k) = omega (arith, apart 0 (suc k) (omega arith))
+
   pub all-long : (n : ℕ) (w : List ℕ) → length (putAll put place d xs n w) ≡ length w
   unfolding putAll
   all-long zero w = refl
   all-long (suc n) w = part .long (putAll put place d xs n w) (place n) (getD xs n d) ∙ all-long n w
 
   -- what stands before the parts, and beyond them, is left alone
-  pub all-beside : (n : ℕ) (w : List ℕ) (i : ℕ) → (i < a) ⊎ (place n ≤ i) → word (putAll put place d xs n w) i ≡ word w i
+  pub all-beside : (n : ℕ) (w : List ℕ) (i : ℕ) → (i < place 0) ⊎ (place n ≤ i) → word (putAll put place d xs n w) i ≡ word w i
   unfolding putAll
   all-beside zero w i o = refl
   all-beside (suc n) w i o = part .beside (putAll put place d xs n w) (place n) (getD xs n d) i (out o) ∙ all-beside n w i (before o)
     where
-      out : (i < a) ⊎ (place (suc n) ≤ i) → (i < place n) ⊎ (place n + s ≤ i)
+      out : (i < place 0) ⊎ (place (suc n) ≤ i) → (i < place n) ⊎ (place n + s ≤ i)
       out (inl l) = inl (omega (arith, low n))
       out (inr l) = inr (omega (arith, apart n (suc n) (omega arith)))
 
-      before : (i < a) ⊎ (place (suc n) ≤ i) → (i < a) ⊎ (place n ≤ i)
+      before : (i < place 0) ⊎ (place (suc n) ≤ i) → (i < place 0) ⊎ (place n ≤ i)
       before (inl l) = inl l
       before (inr l) = inr (omega (arith, apart n (suc n) (omega arith)))
 
@@ -132,6 +138,13 @@ module _ (w : List ℕ) (p a b c d : ℕ) where
 flag-back : (u : Bool) → not (eqb (one u) 0) ≡ u
 flag-back true = refl
 flag-back false = refl
+
+-- ---- the release
+
+release-back : (e : Release) → releaseOf (releaseNumber e) ≡ e
+unfolding releaseOf releaseNumber
+release-back One = refl
+release-back Two = refl
 
 -- ---- nodes
 
@@ -279,13 +292,13 @@ cell-part = record {
 -- ---- writing parts keeps the length
 
 pub nodes-long : (xs : List Node) (n : ℕ) (w : List ℕ) → length (putNodes xs n w) ≡ length w
-nodes-long xs n w = all-long node-part 2 nodePlace (λ k. omega arith) (λ k n l. omega arith) freshNode xs n w
+nodes-long xs n w = all-long node-part nodePlace (λ k n l. omega arith) freshNode xs n w
 
 pub consoles-long : (xs : List Console) (n : ℕ) (w : List ℕ) → length (putConsoles xs n w) ≡ length w
-consoles-long xs n w = all-long console-part 22 consolePlace (λ k. omega arith) (λ k n l. omega arith) idleConsole xs n w
+consoles-long xs n w = all-long console-part consolePlace (λ k n l. omega arith) idleConsole xs n w
 
 pub cells-long : (xs : List Cell) (n : ℕ) (w : List ℕ) → length (putCells xs n w) ≡ length w
-cells-long xs n w = all-long cell-part 78 cellPlace (λ k. omega arith) (λ k n l. omega arith) (cellOf Nothing) xs n w
+cells-long xs n w = all-long cell-part cellPlace (λ k n l. omega arith) (cellOf Nothing) xs n w
 
 -- ---- the board
 
@@ -298,60 +311,75 @@ pub record Typed (b : Board) : Type 0 where
 
 module _ (w : List ℕ) (b : Board) (h : boardWords ≤ length w) (t : Typed b) where
   abbrev w₁ : List ℕ
-  w₁ = set (set w 0 (b .setup .n)) 1 (b .setup .m)
+  w₁ = set w 0 (b .setup .n)
 
   abbrev w₂ : List ℕ
-  w₂ = putNodes (b .nodes) 5 w₁
+  w₂ = set w₁ 1 (b .setup .m)
 
   abbrev w₃ : List ℕ
-  w₃ = putConsoles (b .consoles) 8 w₂
+  w₃ = set w₂ 2 (releaseNumber (b .setup .release))
 
   abbrev w₄ : List ℕ
-  w₄ = putCells (b .cells) 40 w₃
+  w₄ = putNodes (b .nodes) 5 w₃
+
+  abbrev w₅ : List ℕ
+  w₅ = putConsoles (b .consoles) 8 w₄
+
+  abbrev w₆ : List ℕ
+  w₆ = putCells (b .cells) 40 w₅
 
   long-1 : length w₁ ≡ length w
-  long-1 = length-set (set w 0 (b .setup .n)) 1 (b .setup .m) ∙ length-set w 0 (b .setup .n)
+  long-1 = length-set w 0 (b .setup .n)
 
   long-2 : length w₂ ≡ length w
-  long-2 = nodes-long (b .nodes) 5 w₁ ∙ long-1
+  long-2 = length-set w₁ 1 (b .setup .m) ∙ long-1
 
   long-3 : length w₃ ≡ length w
-  long-3 = consoles-long (b .consoles) 8 w₂ ∙ long-2
+  long-3 = length-set w₂ 2 (releaseNumber (b .setup .release)) ∙ long-2
 
-  -- the cells come after the rest, the consoles after the nodes, the nodes after n and m
-  before-cells : (i : ℕ) → i < 78 → word w₄ i ≡ word w₃ i
-  before-cells i l = all-beside cell-part 78 cellPlace (λ k. omega arith) (λ k n l. omega arith) (cellOf Nothing) (b .cells) 40 w₃ i (inl l)
+  long-4 : length w₄ ≡ length w
+  long-4 = nodes-long (b .nodes) 5 w₃ ∙ long-3
 
-  before-consoles : (i : ℕ) → i < 22 → word w₄ i ≡ word w₂ i
-  before-consoles i l = before-cells i (omega arith) ∙ all-beside console-part 22 consolePlace (λ k. omega arith) (λ k n l. omega arith) idleConsole (b .consoles) 8 w₂ i (inl l)
+  long-5 : length w₅ ≡ length w
+  long-5 = consoles-long (b .consoles) 8 w₄ ∙ long-4
 
-  before-nodes : (i : ℕ) → i < 2 → word w₄ i ≡ word w₁ i
-  before-nodes i l = before-consoles i (omega arith) ∙ all-beside node-part 2 nodePlace (λ k. omega arith) (λ k n l. omega arith) freshNode (b .nodes) 5 w₁ i (inl l)
+  -- the cells come after the rest, the consoles after the nodes, the nodes after n, m and the release
+  before-cells : (i : ℕ) → i < cellPlace 0 → word w₆ i ≡ word w₅ i
+  before-cells i l = all-beside cell-part cellPlace (λ k n l. omega arith) (cellOf Nothing) (b .cells) 40 w₅ i (inl l)
 
-  n-back : word w₄ 0 ≡ b .setup .n
-  n-back = before-nodes 0 (omega arith) ∙ word-beside (set w 0 (b .setup .n)) 1 (b .setup .m) 0 (omega arith) ∙ word-same w 0 (b .setup .n) (omega arith)
+  before-consoles : (i : ℕ) → i < consolePlace 0 → word w₆ i ≡ word w₄ i
+  before-consoles i l = before-cells i (omega arith) ∙ all-beside console-part consolePlace (λ k n l. omega arith) idleConsole (b .consoles) 8 w₄ i (inl l)
 
-  m-back : word w₄ 1 ≡ b .setup .m
-  m-back = before-nodes 1 (omega arith) ∙ word-same (set w 0 (b .setup .n)) 1 (b .setup .m) (omega (arith, length-set w 0 (b .setup .n)))
+  before-nodes : (i : ℕ) → i < nodePlace 0 → word w₆ i ≡ word w₃ i
+  before-nodes i l = before-consoles i (omega arith) ∙ all-beside node-part nodePlace (λ k n l. omega arith) freshNode (b .nodes) 5 w₃ i (inl l)
 
-  nodes-back : allFrom nodeFrom nodePlace (replicate 5 freshNode) 5 w₄ ≡ b .nodes
-  nodes-back = from-all nodeFrom nodePlace freshNode (replicate 5 freshNode) w₄ (b .nodes) 5 refl (t .nodes-5)
-      (λ k l. node-part .reads w₄ w₂ (nodePlace k) (λ i g m. before-consoles i (omega arith))
-      ∙ all-same node-part 2 nodePlace (λ k. omega arith) (λ k n l. omega arith) freshNode (b .nodes) 5 w₁ (omega (arith, long-1)) (λ k l. tt) k l)
+  n-back : word w₆ 0 ≡ b .setup .n
+  n-back = before-nodes 0 (omega arith) ∙ word-beside w₂ 2 (releaseNumber (b .setup .release)) 0 (omega arith) ∙ word-beside w₁ 1 (b .setup .m) 0 (omega arith) ∙ word-same w 0 (b .setup .n) (omega arith)
 
-  consoles-back : allFrom consoleFrom consolePlace (replicate 8 idleConsole) 8 w₄ ≡ b .consoles
-  consoles-back = from-all consoleFrom consolePlace idleConsole (replicate 8 idleConsole) w₄ (b .consoles) 8 refl (t .consoles-8)
-      (λ k l. console-part .reads w₄ w₃ (consolePlace k) (λ i g m. before-cells i (omega arith))
-      ∙ all-same console-part 22 consolePlace (λ k. omega arith) (λ k n l. omega arith) idleConsole (b .consoles) 8 w₂ (omega (arith, long-2)) (t .bytes) k l)
+  m-back : word w₆ 1 ≡ b .setup .m
+  m-back = before-nodes 1 (omega arith) ∙ word-beside w₂ 2 (releaseNumber (b .setup .release)) 1 (omega arith) ∙ word-same w₁ 1 (b .setup .m) (omega (arith, long-1))
 
-  cells-back : allFrom cellFrom cellPlace (replicate 40 (cellOf Nothing)) 40 w₄ ≡ b .cells
-  cells-back = from-all cellFrom cellPlace (cellOf Nothing) (replicate 40 (cellOf Nothing)) w₄ (b .cells) 40 refl (t .cells-40)
-      (λ k l. all-same cell-part 78 cellPlace (λ k. omega arith) (λ k n l. omega arith) (cellOf Nothing) (b .cells) 40 w₃ (omega (arith, long-3)) (λ k l. tt) k l)
+  release-kept : releaseOf (word w₆ 2) ≡ b .setup .release
+  release-kept = ap releaseOf (before-nodes 2 (omega arith) ∙ word-same w₂ 2 (releaseNumber (b .setup .release)) (omega (arith, long-2))) ∙ release-back (b .setup .release)
+
+  nodes-back : allFrom nodeFrom nodePlace (replicate 5 freshNode) 5 w₆ ≡ b .nodes
+  nodes-back = from-all nodeFrom nodePlace freshNode (replicate 5 freshNode) w₆ (b .nodes) 5 refl (t .nodes-5)
+      (λ k l. node-part .reads w₆ w₄ (nodePlace k) (λ i g m. before-consoles i (omega arith))
+      ∙ all-same node-part nodePlace (λ k n l. omega arith) freshNode (b .nodes) 5 w₃ (omega (arith, long-3)) (λ k l. tt) k l)
+
+  consoles-back : allFrom consoleFrom consolePlace (replicate 8 idleConsole) 8 w₆ ≡ b .consoles
+  consoles-back = from-all consoleFrom consolePlace idleConsole (replicate 8 idleConsole) w₆ (b .consoles) 8 refl (t .consoles-8)
+      (λ k l. console-part .reads w₆ w₅ (consolePlace k) (λ i g m. before-cells i (omega arith))
+      ∙ all-same console-part consolePlace (λ k n l. omega arith) idleConsole (b .consoles) 8 w₄ (omega (arith, long-4)) (t .bytes) k l)
+
+  cells-back : allFrom cellFrom cellPlace (replicate 40 (cellOf Nothing)) 40 w₆ ≡ b .cells
+  cells-back = from-all cellFrom cellPlace (cellOf Nothing) (replicate 40 (cellOf Nothing)) w₆ (b .cells) 40 refl (t .cells-40)
+      (λ k l. all-same cell-part cellPlace (λ k n l. omega arith) (cellOf Nothing) (b .cells) 40 w₅ (omega (arith, long-5)) (λ k l. tt) k l)
 
   -- encoding and then decoding gives the board
   pub round-trip : decoded (encoded w b) ≡ b
   unfolding decoded encoded
-  round-trip = rw (n-back, m-back, nodes-back, consoles-back, cells-back)
+  round-trip = rw (n-back, m-back, release-kept, nodes-back, consoles-back, cells-back)
 
 -- so words that a board was written into are that board's
 pub written : (w w' : List ℕ) (b : Board) → boardWords ≤ length w → Typed b → w' ≡ encoded w b → (w' ≡ encoded w b) × (decoded w' ≡ b)

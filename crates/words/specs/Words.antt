@@ -1,10 +1,12 @@
--- A board as 238 words of 32 bits: n and m, then four words for a node, seven for a console, four for a cell. Any words
--- whatever are some board's (decoded).
+-- A board as 239 words of 32 bits: n, m and the release, then four words for a node, seven for a console, four for a cell. Any
+-- words whatever are some board's (decoded).
 use Prim.Native.Nat.{ℕ, zero, suc, _+_, _*_, _%_, _<_}
-use mathlib.Core.Bool.{not}
+use mathlib.Core.Bool.{cond, not}
 use mathlib.Core.List.{List}
 use lib.Dec.{eqb}
 use lib.ListN.{getD, set, replicate}
+use Rattle.parts.specs.declared.Release.{Release}
+use Rattle.parts.specs.declared.Release.the-variants.{One, Two}
 use Rattle.parts.specs.declared.Tag.{Tag}
 use Rattle.parts.specs.declared.Frame.{Frame}
 use Rattle.parts.specs.declared.Frame.the-variants.{Nothing, Ask, Reply, Put, Ack}
@@ -22,7 +24,7 @@ use Rattle.board.specs.declared.Board.{Board}
 
 -- the words of a board
 abbrev pub boardWords : ℕ
-boardWords = 238
+boardWords = 239
 
 -- the word at place i
 abbrev pub word : List ℕ → ℕ → ℕ
@@ -31,15 +33,19 @@ word w i = getD w i 0
 -- ---- where the parts stand
 
 abbrev pub nodePlace : ℕ → ℕ
-nodePlace k = 2 + k * 4
+nodePlace k = 3 + k * 4
 
 abbrev pub consolePlace : ℕ → ℕ
-consolePlace c = 22 + c * 7
+consolePlace c = 23 + c * 7
 
 abbrev pub cellPlace : ℕ → ℕ
-cellPlace i = 78 + i * 4
+cellPlace i = 79 + i * 4
 
 -- ---- reading
+
+-- a release by its number; but for 2 it is release 1, the register without Paper 4's change
+unfoldable pub releaseOf : ℕ → Release
+releaseOf i = cond (eqb i 2) Two One
 
 -- a tag from two words
 abbrev pub tagOf : ℕ → ℕ → Tag
@@ -83,13 +89,17 @@ allFrom from place xs (suc k) w = set (allFrom from place xs k w) k (from w (pla
 unfoldable pub decoded : List ℕ → Board
 decoded w =
     record {
-      setup = record { n = word w 0; m = word w 1 };
+      setup = record { n = word w 0; m = word w 1; release = releaseOf (word w 2) };
       nodes = allFrom nodeFrom nodePlace (replicate 5 freshNode) 5 w;
       consoles = allFrom consoleFrom consolePlace (replicate 8 idleConsole) 8 w;
       cells = allFrom cellFrom cellPlace (replicate 40 (cellOf Nothing)) 40 w;
     }
 
 -- ---- writing
+
+unfoldable pub releaseNumber : Release → ℕ
+releaseNumber One = 1
+releaseNumber Two = 2
 
 -- four words from p on
 abbrev pub putFour : List ℕ → ℕ → ℕ → ℕ → ℕ → ℕ → List ℕ
@@ -149,9 +159,9 @@ putConsoles = putAll putConsole consolePlace idleConsole
 abbrev pub putCells : List Cell → ℕ → List ℕ → List ℕ
 putCells = putAll putCell cellPlace (cellOf Nothing)
 
--- the words with the board in their first 238
+-- the words with the board in their first 239
 unfoldable pub encoded : List ℕ → Board → List ℕ
-encoded w b = putCells (b .cells) 40 (putConsoles (b .consoles) 8 (putNodes (b .nodes) 5 (set (set w 0 (b .setup .n)) 1 (b .setup .m))))
+encoded w b = putCells (b .cells) 40 (putConsoles (b .consoles) 8 (putNodes (b .nodes) 5 (set (set (set w 0 (b .setup .n)) 1 (b .setup .m)) 2 (releaseNumber (b .setup .release)))))
 
 -- ---- what a board's type says, and reading back rests on
 

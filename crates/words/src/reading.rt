@@ -4,7 +4,7 @@ ghost use Prim.Native.Nat.{_+_, _≤_};
 ghost use lib.ListN.{length, replicate};
 ghost use Rattle.parts.specs.declared.Frame.the-variants.{Nothing};
 ghost use Rattle.parts.specs.Parts.{freshNode, idleConsole, cellOf};
-ghost use Rattle.words.specs.Words.{boardWords, nodePlace, consolePlace, cellPlace, nodeFrom, stateOf, consoleFrom, frameOf, cellFrom, allFrom, decoded};
+ghost use Rattle.words.specs.Words.{boardWords, nodePlace, consolePlace, cellPlace, releaseOf, nodeFrom, stateOf, consoleFrom, frameOf, cellFrom, allFrom, decoded};
 use crate::BOARD_WORDS;
 use crate::CELL_WORDS;
 use crate::CELLS_AT;
@@ -21,9 +21,20 @@ use parts::Frame;
 use parts::Kind;
 use parts::NODES;
 use parts::Node;
+use parts::Release;
 use parts::Setup;
 use parts::State;
 use parts::Tag;
+
+// What is not release 2 is read as release 1.
+fn release_of(i: u32) -> Release
+    ensures { λ r. ⌜ r ≡ releaseOf i ⌝ }
+{
+    if i == 2 {
+        return Release::Two;
+    }
+    Release::One
+}
 
 // The private functions below that read words are called where the words reach far enough.
 fn node_from(w: &[u32], p: usize) -> Node
@@ -161,7 +172,11 @@ fn board_from(w: &[u32]) -> Board
     requires { ⌜ boardWords ≤ length (now w) ⌝ }
     ensures { λ r. ⌜ r ≡ decoded (now (w .entry)) ⌝ }
 {
-    let setup = Setup { n: w[0], m: w[1] };
+    let setup = Setup {
+        n: w[0],
+        m: w[1],
+        release: release_of(w[2]),
+    };
     let nodes = nodes_from(w);
     let consoles = consoles_from(w);
     let cells = cells_from(w);
@@ -173,7 +188,7 @@ fn board_from(w: &[u32]) -> Board
     }
 }
 
-// The board in the first 238 words. Fewer words are read as if all were 0; the contract leaves that open.
+// The board in the first 239 words. Fewer words are read as if all were 0; the contract leaves that open.
 pub fn decode(w: &[u32]) -> Board
     ensures { λ r. ⌜ (boardWords ≤ length (now (w .entry)) → r ≡ decoded (now (w .entry))) ⌝ }
 {

@@ -3,7 +3,7 @@ ghost use mathlib.Core.Path.{_≡_};
 ghost use Prim.Native.Nat.{_+_, _≤_, _<_};
 ghost use lib.ListN.{length};
 ghost use Rattle.parts.specs.Finite.{one};
-ghost use Rattle.words.specs.Words.{boardWords, putFour, putNode, stateNumber, kindNumber, putConsole, frameNumber, frameTag, frameValue, putCell, putNodes, putConsoles, putCells, encoded, decoded, Byte, Bytes};
+ghost use Rattle.words.specs.Words.{boardWords, releaseNumber, putFour, putNode, stateNumber, kindNumber, putConsole, frameNumber, frameTag, frameValue, putCell, putNodes, putConsoles, putCells, encoded, decoded, Byte, Bytes};
 use crate::BOARD_WORDS;
 use crate::CELL_WORDS;
 use crate::CELLS_AT;
@@ -22,9 +22,19 @@ use parts::MAX_NODES;
 use parts::NODES;
 use parts::Node;
 use parts::NodeId;
+use parts::Release;
 use parts::State;
 use parts::Tag;
 use parts::nodes::node_in;
+
+fn release_number(release: Release) -> u32
+    ensures { λ r. ⌜ r ≡ releaseNumber release ⌝ }
+{
+    match release {
+        Release::One => 1,
+        Release::Two => 2,
+    }
+}
 
 // The private functions below that write words are called where the words reach far enough. Those of arrays and of
 // consoles also tell what their arguments' types say (a length, a byte), since reading back rests on it.
@@ -184,8 +194,11 @@ fn put_board(w: &mut [u32], b: Board)
     requires { ⌜ boardWords ≤ length (now w) ⌝ }
     ensures { λ r. ⌜ (now (w .exit) ≡ encoded (now (w .entry)) b) × (decoded (now (w .exit)) ≡ b) ⌝ }
 {
-    w[0] = b.setup.n;
-    w[1] = b.setup.m;
+    let setup = b.setup;
+    w[0] = setup.n;
+    w[1] = setup.m;
+    let release = setup.release;
+    w[2] = release_number(release);
     let nodes = b.nodes;
     put_nodes(w, nodes);
     let consoles = b.consoles;
@@ -194,7 +207,7 @@ fn put_board(w: &mut [u32], b: Board)
     put_cells(w, cells);
 }
 
-// Writes the board into the first 238 words, from which it can be read back. Shorter words are left as they are.
+// Writes the board into the first 239 words, from which it can be read back. Shorter words are left as they are.
 pub fn encode(w: &mut [u32], b: Board)
     ensures { λ r. ⌜ (boardWords ≤ length (now (w .entry)) → (now (w .exit) ≡ encoded (now (w .entry)) b) × (decoded (now (w .exit)) ≡ b)) × (length (now (w .entry)) < boardWords → now (w .exit) ≡ now (w .entry)) ⌝ }
 {

@@ -1,4 +1,4 @@
--- The set's size decides, then question 10, as in the definition.
+-- The set's size decides, then whether it finishes early, then question 10, as in the definition.
 use mathlib.Core.Path.{sym, ap, _∙_}
 use borrow.Author.Needs.{needs}
 use borrow.Author.Tests.{lt-ltb, le-ltb, ltb-true}
@@ -24,25 +24,35 @@ returns : tie.Need-returns
 unfolding replied
 returns c = simp (sym (c .before .before .before .set-size .ensures), sym (c .before .before .ask-size .ensures), lt-ltb _ _ (c .before .if1 .taken)) (c .hear .ensures)
 
+finishes-early-requires : tie.Need-finishes-early-requires
+finishes-early-requires c κs = search needs
+
+finish-requires : tie.Need-finish-requires
+finish-requires c κs = search needs
+
+returns-2 : tie.Need-returns-2
+unfolding replied
+returns-2 c = simp (sym (c .before .before .before .before .before .set-size .ensures), sym (c .before .before .before .before .ask-size .ensures), le-ltb _ _ (c .before .before .before .if1 .left), sym (c .before .before .finishes-early .ensures) ∙ c .before .if2 .taken) (c .finish .ensures)
+
 has-next-requires : tie.Need-has-next-requires
 has-next-requires c κs = search needs
 
 refused-requires : tie.Need-refused-requires
 refused-requires c κs = search needs
 
-returns-2 : tie.Need-returns-2
+returns-3 : tie.Need-returns-3
 unfolding replied
-returns-2 c = simp (sym (c .before .before .before .before .before .set-size .ensures), sym (c .before .before .before .before .ask-size .ensures), le-ltb _ _ (c .before .before .before .if1 .left)) (c .refused .ensures ∙ sym (guarded-no _ _ _ _ (said-no (c .before .before .has-next .ensures) (c .before .if2 .taken))))
+returns-3 c = simp (sym (c .before .before .before .before .before .before .before .set-size .ensures), sym (c .before .before .before .before .before .before .ask-size .ensures), le-ltb _ _ (c .before .before .before .before .before .if1 .left), sym (c .before .before .before .before .finishes-early .ensures) ∙ c .before .before .before .if2 .left) (c .refused .ensures ∙ sym (guarded-no _ _ _ _ (said-no (c .before .before .has-next .ensures) (c .before .if3 .taken))))
 
 turned-at-requires : tie.Need-turned-at-requires
-turned-at-requires c κs = ((within (c .before .before .before .before .before .before .pre) .0, within (c .before .before .before .before .before .before .pre) .2), λ w. ltb-true _ _ (implied _ _ (said-yes (c .before .has-next .ensures) (c .if2 .left)) w))
+turned-at-requires c κs = ((within (c .before .before .before .before .before .before .before .before .pre) .0, within (c .before .before .before .before .before .before .before .before .pre) .2), λ w. ltb-true _ _ (implied _ _ (said-yes (c .before .has-next .ensures) (c .if3 .left)) w))
 
 accepted-with-requires : tie.Need-accepted-with-requires
 accepted-with-requires c κs = search needs
 
-returns-3 : tie.Need-returns-3
+returns-4 : tie.Need-returns-4
 unfolding replied
-returns-3 c = simp (sym (c .before .before .before .before .before .before .set-size .ensures), sym (c .before .before .before .before .before .ask-size .ensures), le-ltb _ _ (c .before .before .before .before .if1 .left)) (c .accepted-with .ensures ∙ ap (answerWith _ Turned) (c .before .turned-at .ensures) ∙ sym (guarded-yes _ _ _ _ (said-yes (c .before .before .before .has-next .ensures) (c .before .before .if2 .left)) ∙ guarded-end _ _))
+returns-4 c = simp (sym (c .before .before .before .before .before .before .before .before .set-size .ensures), sym (c .before .before .before .before .before .before .before .ask-size .ensures), le-ltb _ _ (c .before .before .before .before .before .before .if1 .left), sym (c .before .before .before .before .before .finishes-early .ensures) ∙ c .before .before .before .before .if2 .left) (c .accepted-with .ensures ∙ ap (answerWith _ Turned) (c .before .turned-at .ensures) ∙ sym (guarded-yes _ _ _ _ (said-yes (c .before .before .before .has-next .ensures) (c .before .before .if3 .left)) ∙ guarded-end _ _))
 
 pub take-reply-spec : {M : Type 1} → statement M
 take-reply-spec =
@@ -52,9 +62,12 @@ take-reply-spec =
     ask-size-requires
     hear-requires
     returns
+    finishes-early-requires
+    finish-requires
+    returns-2
     has-next-requires
     refused-requires
-    returns-2
+    returns-3
     turned-at-requires
     accepted-with-requires
-    returns-3)
+    returns-4)

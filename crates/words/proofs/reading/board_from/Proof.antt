@@ -10,6 +10,12 @@ shared-slice-read-t7 c = search needs
 shared-slice-read-t9 : tie.Need-shared-slice-read-t9
 shared-slice-read-t9 c = search needs
 
+shared-slice-read-release-of : tie.Need-shared-slice-read-release-of
+shared-slice-read-release-of c = search needs
+
+release-of-requires : tie.Need-release-of-requires
+release-of-requires c κs = search needs
+
 nodes-from-requires : tie.Need-nodes-from-requires
 nodes-from-requires c κs = search needs
 
@@ -21,7 +27,7 @@ cells-from-requires c κs = search needs
 
 returns : tie.Need-returns
 unfolding decoded
-returns c = rw (c .before .before .nodes-from .ensures, c .before .consoles-from .ensures, c .cells-from .ensures)
+returns c = rw (c .before .before .before .release-of .ensures, c .before .before .nodes-from .ensures, c .before .consoles-from .ensures, c .cells-from .ensures)
 
 pub board-from-spec : {M : Type 1} → statement M
 board-from-spec =
@@ -29,6 +35,8 @@ board-from-spec =
     (tie.spec
     shared-slice-read-t7
     shared-slice-read-t9
+    shared-slice-read-release-of
+    release-of-requires
     nodes-from-requires
     consoles-from-requires
     cells-from-requires

@@ -14,6 +14,12 @@ slice-write-w c = search needs
 slice-write-w-2 : tie.Need-slice-write-w-2
 slice-write-w-2 c = simp length-set (omega arith)
 
+release-number-requires : tie.Need-release-number-requires
+release-number-requires c κs = search needs
+
+slice-write-w-3 : tie.Need-slice-write-w-3
+slice-write-w-3 c = simp length-set (omega arith)
+
 put-nodes-requires : tie.Need-put-nodes-requires
 put-nodes-requires c κs = search needs
 
@@ -29,9 +35,9 @@ same-length c = omega (arith, simp cells-long at (ap length (c .before .before .
 returns : tie.Need-returns
 unfolding encoded
 returns c =
-    written (c .before .before .before .before .before .before .before .before .before .before .before .before .before .before .before .before .args .w .now) _ (c .before .before .before .before .before .before .before .before .before .before .before .before .before .before .before .before .args .b) (c .before .before .before .before .before .before .before .before .before .before .before .before .before .before .before .before .pre)
+    written (c .before .before .before .before .before .before .before .before .before .before .before .before .before .before .before .before .before .before .args .w .now) _ (c .before .before .before .before .before .before .before .before .before .before .before .before .before .before .before .before .before .before .args .b) (c .before .before .before .before .before .before .before .before .before .before .before .before .before .before .before .before .before .before .pre)
     (record { nodes-5 = c .before .before .before .before .before .before .before .before .before .before .before .before .put-nodes .ensures .1; consoles-8 = c .before .before .before .before .before .before .before .put-consoles .ensures .1; cells-40 = c .before .before .put-cells .ensures .1; bytes = c .before .before .before .before .before .before .before .put-consoles .ensures .2 })
-    (rw (c .before .before .put-cells .ensures .0, c .before .before .before .before .before .before .before .put-consoles .ensures .0, c .before .before .before .before .before .before .before .before .before .before .before .before .put-nodes .ensures .0))
+    (rw (c .before .before .put-cells .ensures .0, c .before .before .before .before .before .before .before .put-consoles .ensures .0, c .before .before .before .before .before .before .before .before .before .before .before .before .put-nodes .ensures .0, c .before .before .before .before .before .before .before .before .before .before .before .before .before .before .before .release-number .ensures))
 
 pub put-board-spec : {M : Type 1} → statement M
 put-board-spec =
@@ -39,6 +45,8 @@ put-board-spec =
     (tie.spec
     slice-write-w
     slice-write-w-2
+    release-number-requires
+    slice-write-w-3
     put-nodes-requires
     put-consoles-requires
     put-cells-requires

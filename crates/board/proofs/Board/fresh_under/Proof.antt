@@ -6,8 +6,8 @@ use Rattle.board.specs.Answers.{answer, refuse}
 use Rattle.board.specs.Steps.{fresh}
 use Rattle.parts.specs.declared.Outcome.the-variants.{Done}
 use Rattle.parts.proofs.FiniteLaws.{said-no, said-yes}
-use Rattle.board.proofs.Board.fresh.Statement.{statement}
-use Rattle.board.proofs.Board.fresh.Tie as tie
+use Rattle.board.proofs.Board.fresh_under.Statement.{statement}
+use Rattle.board.proofs.Board.fresh_under.Tie as tie
 
 is-node-count-requires : tie.Need-is-node-count-requires
 is-node-count-requires c κs = search needs
@@ -45,8 +45,8 @@ returns-3 : tie.Need-returns-3
 unfolding fresh
 returns-3 c = c .accepted .ensures ∙ ap (answer Done) (c .before .made .ensures) ∙ sym (guarded-yes _ _ _ _ (said-yes (c .before .before .before .before .before .is-node-count .ensures) (c .before .before .before .before .if1 .left)) ∙ guarded-yes _ _ _ _ (said-yes (c .before .before .before .is-console-count .ensures) (c .before .before .if2 .left)) ∙ guarded-end _ _)
 
-pub fresh-spec : {M : Type 1} → statement M
-fresh-spec =
+pub fresh-under-spec : {M : Type 1} → statement M
+fresh-under-spec =
     tie.close
     (tie.spec
     is-node-count-requires

@@ -2,8 +2,8 @@
 use mathlib.Core.Path.{refl, sym, _∙_}
 use borrow.Author.Needs.{needs}
 use Rattle.bindings.proofs.CallsLaws.{long-board, long-answer, not-called, called}
-use Rattle.bindings.proofs.calls.board_fresh.Statement.{statement}
-use Rattle.bindings.proofs.calls.board_fresh.Tie as tie
+use Rattle.bindings.proofs.calls.fresh_under.Statement.{statement}
+use Rattle.bindings.proofs.calls.fresh_under.Tie as tie
 
 short-by-requires : tie.Need-short-by-requires
 short-by-requires c κs = search needs
@@ -11,8 +11,8 @@ short-by-requires c κs = search needs
 returns : tie.Need-returns
 returns c = not-called _ _ _ _ (c .before .short-by .ensures) (c .if1 .taken)
 
-fresh-requires : tie.Need-fresh-requires
-fresh-requires c κs = search needs
+fresh-under-requires : tie.Need-fresh-under-requires
+fresh-under-requires c κs = search needs
 
 put-answer-requires : tie.Need-put-answer-requires
 put-answer-requires c κs = long-answer _ _ (sym (c .before .before .before .short-by .ensures) ∙ c .before .before .if1 .left)
@@ -28,16 +28,16 @@ same-length-2 c = search needs
 
 returns-2 : tie.Need-returns-2
 returns-2 c =
-    called _ _ _ _ (c .before .before .before .before .before .before .before .before .before .before .short-by .ensures) (c .before .before .before .before .before .before .before .before .before .if1 .left) _ refl _ (c .before .before .before .before .before .before .before .before .fresh .ensures)
+    called _ _ _ _ (c .before .before .before .before .before .before .before .before .before .before .short-by .ensures) (c .before .before .before .before .before .before .before .before .before .if1 .left) _ refl _ (c .before .before .before .before .before .before .before .before .fresh-under .ensures)
     _ _ (c .before .before .keep .ensures) (c .before .before .before .before .before .before .put-answer .ensures)
 
-pub board-fresh-spec : {M : Type 1} → statement M
-board-fresh-spec =
+pub fresh-under-spec : {M : Type 1} → statement M
+fresh-under-spec =
     tie.close
     (tie.spec
     short-by-requires
     returns
-    fresh-requires
+    fresh-under-requires
     put-answer-requires
     keep-requires
     same-length
