@@ -10,8 +10,9 @@ mod lines;
 mod plain;
 mod plain_lines;
 
-use hatukeno::{Board, Outcome, Refusal, BOARD_WORDS};
+use hatukeno::{Board, Compared, Outcome, Refusal, Release, BOARD_WORDS};
 use lines::Programs;
+use plain::{CELL, CELLS, CONSOLE, CONSOLES, NODE, NODES};
 use std::hint::black_box;
 use std::mem::size_of;
 use std::path::PathBuf;
@@ -114,7 +115,7 @@ impl Chance {
     /// A step on this board that is likely to be accepted.
     fn step(&mut self, w: &Words) -> Step {
         let (n, m) = (w[0], w[1]);
-        let down = (0..n).filter(|k| w[2 + 4 * *k as usize] == 0);
+        let down = (0..n).filter(|k| !is_up(w, *k));
         match self.below(1000) {
             0..=2 => return Step::NodeDown(self.number(n)),
             3..=5 => return Step::ConsoleDown(self.number(m)),
@@ -128,9 +129,9 @@ impl Chance {
             }
             _ => {}
         }
-        let idle = (0..m).filter(|c| w[22 + 7 * *c as usize] == 0).count() as u32;
-        if self.below(16 * m) < idle {
-            let c = self.drawn((0..m).filter(|c| w[22 + 7 * *c as usize] == 0)).unwrap_or(0);
+        let idle = (0..m).filter(|c| w[CONSOLES + CONSOLE * *c as usize] == 0);
+        if self.below(16 * m) < idle.clone().count() as u32 {
+            let c = self.drawn(idle).unwrap_or(0);
             return if self.below(2) == 0 {
                 Step::BeginRead(c)
             } else {
@@ -138,9 +139,9 @@ impl Chance {
             };
         }
         // A reply or an ack is always taken; an ask or a put only by a node that is up.
-        let goes = |i: &u32| match w[78 + 4 * *i as usize] {
+        let goes = |i: &u32| match w[CELLS + CELL * *i as usize] {
             0 => false,
-            1 | 3 => w[2 + 4 * (*i % 5) as usize] != 0,
+            1 | 3 => is_up(w, *i % 5),
             _ => true,
         };
         if let Some(i) = self.drawn((0..40).filter(goes)) {
@@ -160,6 +161,10 @@ impl Chance {
         let i = self.below(count);
         all.clone().nth(i as usize)
     }
+}
+
+fn is_up(w: &Words, k: u32) -> bool {
+    w[NODES + NODE * k as usize] != 0
 }
 
 /// Stops unless this kind of plain Rust answers as the library did, and has the same words after the step.
@@ -193,11 +198,12 @@ fn both(words: &mut Words, step: Step) -> Answer {
     answer
 }
 
-/// A run from a fresh board.
+/// A run from a fresh board, and how many of its reads finished early.
 struct Run {
     n: u32,
     m: u32,
     steps: Vec<Step>,
+    early: usize,
 }
 
 /// Whether a step with this outcome or refusal belongs to a row.
@@ -240,28 +246,46 @@ impl Row {
 
 /// Whether some operation can still finish: a console is up. Nodes come back.
 fn goes_on(w: &Words) -> bool {
-    w[22..78].chunks(7).take(w[1] as usize).any(|x| x[0] != 5)
+    w[CONSOLES..CELLS].chunks(CONSOLE).take(w[1] as usize).any(|x| x[0] != 5)
 }
 
-/// One run by chance on a size by chance, its steps sorted into the rows.
-fn made_run(chance: &mut Chance, rows: &mut [Row]) -> Run {
+/// One run by chance on a size by chance under the release, its steps sorted into the rows.
+fn made_run(release: Release, chance: &mut Chance, rows: &mut [Row]) -> Run {
     let (n, m) = (1 + chance.below(5), 1 + chance.below(8));
-    let mut words = Board::made(n, m).expect("an allowed size").in_words();
-    if words != Plain::made(n, m).expect("an allowed size").in_words() {
-        println!("a difference at fresh {n} {m}");
+    let mut words = Board::fresh_under(n, m, release).expect("an allowed size").in_words();
+    if words != Plain::fresh_under(n, m, release).expect("an allowed size").in_words() {
+        println!("a difference at fresh {n} {m} under {release:?}");
         exit(1);
     }
-    let mut steps = Vec::new();
+    let (mut steps, mut early) = (Vec::new(), 0);
     while steps.len() < LENGTH && goes_on(&words) {
         let before = words;
         let step = chance.step(&words);
-        let outcome = both(&mut words, step).map(|answer| answer.outcome);
+        let answer = both(&mut words, step);
+        let outcome = answer.map(|answer| answer.outcome);
+        let took_reply = answer.is_ok_and(|answer| answer.compared != Compared::None);
+        early += usize::from(took_reply && matches!(outcome, Ok(Outcome::Finished { .. })));
         for row in rows.iter_mut().filter(|row| (row.is_of)(step, outcome)) {
             row.take(before, step, chance);
         }
         steps.push(step);
     }
-    Run { n, m, steps }
+    Run { n, m, steps, early }
+}
+
+/// Runs under release 2, of which nothing is timed: how many steps all sides agree on, and how many of them were early finishes.
+fn agree_under_two(chance: &mut Chance) -> (usize, usize) {
+    let (mut steps, mut early) = (0, 0);
+    while steps < STEPS {
+        let run = made_run(Release::Two, chance, &mut []);
+        steps += run.steps.len();
+        early += run.early;
+    }
+    if early == 0 {
+        println!("no read finished early under release 2");
+        exit(1);
+    }
+    (steps, early)
 }
 
 /// Question 1 is part of what is timed, but no run gets a no to it: here it is compared on boards with a word out of place.
@@ -429,7 +453,7 @@ fn time_steps(seed: u64, rounds: usize) {
     });
     let (mut runs, mut steps, mut run_steps) = (Vec::new(), 0, 0);
     while steps < STEPS {
-        let run = made_run(&mut chance, &mut rows);
+        let run = made_run(Release::One, &mut chance, &mut rows);
         steps += run.steps.len();
         if run_steps < RUN_STEPS {
             run_steps += run.steps.len();
@@ -438,6 +462,8 @@ fn time_steps(seed: u64, rounds: usize) {
     }
     let ill = damaged(&mut chance, &rows);
     println!("seed {seed}: {steps} steps agree, and one on each of {DAMAGED} boards with a word out of place, {ill} not well formed");
+    let (steps, early) = agree_under_two(&mut chance);
+    println!("and {steps} steps under release 2, {early} of them early finishes; what is timed is release 1");
 
     println!();
     println!("| ns per step | library | plain | plain, question 1 never asked | library / plain | library / never asked |");

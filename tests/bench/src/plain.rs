@@ -1,12 +1,22 @@
-//! The rules of document 01 and Papers 2 and 3 in plain Rust, written to be fast: one struct by value, changed in place. With
+//! The rules of document 01 and Papers 2 to 4 in plain Rust, written to be fast: one struct by value, changed in place. With
 //! CHECKED every step asks question 1 first, without it none does; all else is the same code.
-use hatukeno::{Answer, Compared, Outcome, Refusal, Tag, BOARD_WORDS};
+use hatukeno::{Answer, Compared, Outcome, Refusal, Release, Tag, BOARD_WORDS};
 use std::cmp::Ordering;
 
 const MAX_NODES: usize = 5;
 const MAX_CONSOLES: usize = 8;
 const MAX_TS: u32 = 4_000_000_000;
 const ZERO: Tag = Tag { ts: 0, console: 0 };
+
+/// Where the library's words have the release (2 is release 2, every other number release 1), and where those of the nodes, the
+/// consoles and the cells begin; how many each has (crates/words/specs/Words.antt).
+const RELEASE: usize = 2;
+pub const NODES: usize = 3;
+pub const NODE: usize = 4;
+pub const CONSOLES: usize = NODES + NODE * MAX_NODES;
+pub const CONSOLE: usize = 7;
+pub const CELLS: usize = CONSOLES + CONSOLE * MAX_CONSOLES;
+pub const CELL: usize = 4;
 
 #[derive(Clone, Copy, PartialEq)]
 struct Node {
@@ -52,6 +62,7 @@ enum Cell {
 pub struct Board<const CHECKED: bool> {
     n: u32,
     m: u32,
+    release: Release,
     nodes: [Node; MAX_NODES],
     consoles: [Console; MAX_CONSOLES],
     cells: [Cell; MAX_CONSOLES * MAX_NODES],
@@ -116,6 +127,10 @@ fn is_cell_ok(m: u32, x: &Cell) -> bool {
 
 impl<const CHECKED: bool> Board<CHECKED> {
     pub fn fresh(n: u32, m: u32) -> Result<Self, Refusal> {
+        Self::fresh_under(n, m, Release::One)
+    }
+
+    pub fn fresh_under(n: u32, m: u32, release: Release) -> Result<Self, Refusal> {
         if !(1..=MAX_NODES as u32).contains(&n) {
             return Err(Refusal(2));
         }
@@ -125,6 +140,7 @@ impl<const CHECKED: bool> Board<CHECKED> {
         Ok(Board {
             n,
             m,
+            release,
             nodes: [FRESH; MAX_NODES],
             consoles: [resting(State::Idle); MAX_CONSOLES],
             cells: [Cell::Nothing; MAX_CONSOLES * MAX_NODES],
@@ -246,11 +262,17 @@ impl<const CHECKED: bool> Board<CHECKED> {
         } else {
             (x.best, x.value)
         };
+        let alike = x.answered == 0 || (x.alike && compared == Compared::Same);
         if answered.count_ones() < q {
-            x.alike = x.answered == 0 || (x.alike && compared == Compared::Same);
-            (x.answered, x.best, x.value) = (answered, best, kept);
+            (x.answered, x.alike, x.best, x.value) = (answered, alike, best, kept);
             self.cells[at] = Cell::Nothing;
             let outcome = Outcome::Heard;
+            return Ok(Answer { outcome, compared });
+        }
+        if alike && kind == Kind::Read && self.release == Release::Two {
+            *x = resting(State::Idle);
+            self.cells[at] = Cell::Nothing;
+            let outcome = Outcome::Finished { tag: best, value: kept };
             return Ok(Answer { outcome, compared });
         }
         (x.best, x.value) = match kind {
@@ -338,14 +360,18 @@ impl<const CHECKED: bool> Board<CHECKED> {
             && (kind == Kind::Write || x.wanted == 0)
     }
 
-    /// The board in the library's words (crates/words/specs/Words.antt).
+    /// The board in the library's words.
     pub fn words(&self) -> [u32; BOARD_WORDS] {
         let mut w = [0; BOARD_WORDS];
         (w[0], w[1]) = (self.n, self.m);
-        for (four, x) in w[2..22].chunks_exact_mut(4).zip(&self.nodes) {
+        w[RELEASE] = match self.release {
+            Release::One => 1,
+            Release::Two => 2,
+        };
+        for (four, x) in w[NODES..CONSOLES].chunks_exact_mut(NODE).zip(&self.nodes) {
             four.copy_from_slice(&[u32::from(x.up), x.tag.ts, x.tag.console, x.value]);
         }
-        for (seven, x) in w[22..78].chunks_exact_mut(7).zip(&self.consoles) {
+        for (seven, x) in w[CONSOLES..CELLS].chunks_exact_mut(CONSOLE).zip(&self.consoles) {
             let state = match x.state {
                 State::Idle => 0,
                 State::Asking(Kind::Read) => 1,
@@ -357,7 +383,7 @@ impl<const CHECKED: bool> Board<CHECKED> {
             let (answered, alike) = (x.answered.into(), x.alike.into());
             seven.copy_from_slice(&[state, x.wanted, answered, x.best.ts, x.best.console, x.value, alike]);
         }
-        for (four, x) in w[78..].chunks_exact_mut(4).zip(&self.cells) {
+        for (four, x) in w[CELLS..].chunks_exact_mut(CELL).zip(&self.cells) {
             four.copy_from_slice(&match *x {
                 Cell::Nothing => [0; 4],
                 Cell::Ask => [1, 0, 0, 0],
@@ -375,8 +401,9 @@ impl<const CHECKED: bool> Board<CHECKED> {
         Board {
             n: w[0],
             m: w[1],
+            release: if w[RELEASE] == 2 { Release::Two } else { Release::One },
             nodes: std::array::from_fn(|k| {
-                let four = &w[2 + 4 * k..];
+                let four = &w[NODES + NODE * k..];
                 Node {
                     up: four[0] != 0,
                     tag: tag(&four[1..]),
@@ -384,7 +411,7 @@ impl<const CHECKED: bool> Board<CHECKED> {
                 }
             }),
             consoles: std::array::from_fn(|c| {
-                let seven = &w[22 + 7 * c..];
+                let seven = &w[CONSOLES + CONSOLE * c..];
                 Console {
                     state: match seven[0] {
                         0 => State::Idle,
@@ -402,7 +429,7 @@ impl<const CHECKED: bool> Board<CHECKED> {
                 }
             }),
             cells: std::array::from_fn(|i| {
-                let four = &w[78 + 4 * i..];
+                let four = &w[CELLS + CELL * i..];
                 match four[0] {
                     0 => Cell::Nothing,
                     1 => Cell::Ask,

@@ -1,5 +1,5 @@
 //! What the runs, the damaged boards and the schedules are drawn by.
-use crate::model::Step;
+use crate::model::{Release, Step, RELEASES};
 
 /// Numbers by chance, the same ones for the same seed (splitmix64).
 pub struct Chance(pub u64);
@@ -36,6 +36,10 @@ impl Chance {
         } else {
             self.next() as u32
         }
+    }
+
+    pub fn release(&mut self) -> Release {
+        RELEASES[self.below(2) as usize]
     }
 
     /// Mostly deliveries. With crashes a node is up some three quarters of the time, by three node ups drawn for each node down,

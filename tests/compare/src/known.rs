@@ -1,6 +1,6 @@
-//! Runs of which each answer is known: document 01's extras, and those that show what Papers 2 and 3 say.
-use crate::model::{Answer, Compared, Model, Outcome, Step, MAX_TS};
-use crate::{both, words};
+//! Runs of which each answer is known: document 01's extras, and those that show what Papers 2 to 4 say.
+use crate::model::{Answer, Compared, Frame, Model, Outcome, Release, Step, Tag, MAX_TS, RELEASES};
+use crate::{both, made, words};
 use hatukeno::Board;
 use std::process::exit;
 
@@ -10,6 +10,10 @@ pub fn runs() {
     disk_intact();
     replies_compared();
     none_compared();
+    quiet_reads();
+    not_early();
+    other_cells();
+    last_ts_read();
 }
 
 /// A board of the library and the model beside it.
@@ -20,10 +24,21 @@ struct Known {
 
 impl Known {
     fn fresh(n: u32, m: u32) -> Known {
-        Known {
-            board: Board::fresh(n, m).expect("an allowed size"),
-            model: Model::fresh(n, m).expect("an allowed size"),
+        Known::under(n, m, Release::One)
+    }
+
+    fn under(n: u32, m: u32, release: Release) -> Known {
+        let (board, model) = made(n, m, release);
+        Known { board, model }
+    }
+
+    /// No operation yet, and each of the n nodes holds this.
+    fn holding(n: u32, m: u32, release: Release, tag: Tag, value: u32) -> Known {
+        let (_, mut model) = made(n, m, release);
+        for node in model.nodes.values_mut().take(n as usize) {
+            (node.tag, node.value) = (tag, value);
         }
+        Known::of(model)
     }
 
     /// This board, whether steps lead to it or not.
@@ -52,7 +67,7 @@ impl Known {
         let outcome = Ok(outcome);
         self.expect(Step::Deliver(c, k), Ok(Outcome::Handed));
         self.expect_answer(Step::Deliver(c, k), Answer { outcome, compared });
-        if words::read(self.board.words()).consoles[&c].alike != is_on {
+        if words::read(self.board.words(), 0).consoles[&c].alike != is_on {
             println!("the mark of console {c} is wrong after node {k}'s reply");
             exit(1);
         }
@@ -154,4 +169,70 @@ fn none_compared() {
     board.expect(Step::Deliver(0, 0), Err(10));
     board.expect(Step::ConsoleDown(0), Ok(Outcome::Done));
     board.expect(Step::Deliver(0, 0), Ok(Outcome::Discarded));
+}
+
+/// Paper 4. With three nodes the second of two replies that are alike finishes a read under release 2, and turns it under release
+/// 1; with one node the only reply does.
+fn quiet_reads() {
+    for (tag, value, first) in [((0, 0), 0, Compared::Same), ((1, 1), 7, Compared::Higher)] {
+        for (release, last) in RELEASES.into_iter().zip([Outcome::Turned, Outcome::Finished(tag, value)]) {
+            let mut board = Known::holding(3, 2, release, tag, value);
+            board.expect(Step::BeginRead(0), Ok(Outcome::Done));
+            board.reply(0, 0, Outcome::Heard, first, true);
+            board.reply(0, 2, last, Compared::Same, false);
+
+            let mut board = Known::holding(1, 2, release, tag, value);
+            board.expect(Step::BeginRead(0), Ok(Outcome::Done));
+            board.reply(0, 0, last, first, false);
+        }
+    }
+}
+
+/// Paper 4. Under release 2 a write tells although all replies are alike, and so does a read whose replies differ.
+fn not_early() {
+    use Compared::{Higher, Lower, Same};
+    let mut board = Known::under(3, 2, Release::Two);
+    let written = Outcome::Finished((1, 1), 7);
+    board.finish(1, Step::BeginWrite(1, 7), [(0, Same), (2, Same)], written);
+    board.finish(0, Step::BeginRead(0), [(1, Same), (2, Higher)], written);
+    let written = Outcome::Finished((2, 1), 8);
+    board.finish(1, Step::BeginWrite(1, 8), [(1, Higher), (2, Same)], written);
+    board.finish(0, Step::BeginRead(0), [(2, Higher), (0, Lower)], written);
+
+    let mut board = Known::under(1, 1, Release::Two);
+    board.expect(Step::BeginWrite(0, 7), Ok(Outcome::Done));
+    board.reply(0, 0, Outcome::Turned, Same, false);
+    board.ack(0, 0, Outcome::Finished((1, 0), 7));
+}
+
+/// Paper 4. Of five nodes 0, 1 and 2 finish a read early; the ask to node 3 and the reply of node 4 stay as they are, and come to
+/// nothing.
+fn other_cells() {
+    let mut board = Known::holding(5, 2, Release::Two, (1, 1), 7);
+    board.expect(Step::BeginRead(0), Ok(Outcome::Done));
+    board.expect(Step::Deliver(0, 4), Ok(Outcome::Handed));
+    board.reply(0, 0, Outcome::Heard, Compared::Higher, true);
+    board.reply(0, 1, Outcome::Heard, Compared::Same, true);
+    board.reply(0, 2, Outcome::Finished((1, 1), 7), Compared::Same, false);
+
+    let mut expected = Known::holding(5, 2, Release::Two, (1, 1), 7).model;
+    expected.cells.insert((0, 3), Frame::Ask);
+    expected.cells.insert((0, 4), Frame::Reply((1, 1), 7));
+    if *board.board.words() != words::write(&expected) {
+        println!("after an early finish the board is {:?}", words::read(board.board.words(), 0));
+        exit(1);
+    }
+    board.expect(Step::Deliver(0, 3), Ok(Outcome::Handed));
+    board.expect(Step::Deliver(0, 3), Ok(Outcome::Discarded));
+    board.expect(Step::Deliver(0, 4), Ok(Outcome::Discarded));
+}
+
+/// Paper 4. Question 10 is not asked of a read that finishes early, and is of a write.
+fn last_ts_read() {
+    let mut board = Known::holding(1, 1, Release::Two, (MAX_TS, 0), 7);
+    board.expect(Step::BeginRead(0), Ok(Outcome::Done));
+    board.reply(0, 0, Outcome::Finished((MAX_TS, 0), 7), Compared::Higher, false);
+    board.expect(Step::BeginWrite(0, 8), Ok(Outcome::Done));
+    board.expect(Step::Deliver(0, 0), Ok(Outcome::Handed));
+    board.expect(Step::Deliver(0, 0), Err(10));
 }

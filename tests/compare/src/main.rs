@@ -7,18 +7,24 @@
 //! The second writes what the model answers to the schedule.
 mod chance;
 mod drawing;
+mod faults;
 mod known;
 mod marks;
 mod model;
+mod reads;
+mod releases;
 mod rules;
 mod schedule;
 mod schedules;
 mod words;
 
 use chance::Chance;
+use faults::Fault;
 use hatukeno::{Board, Refusal, BOARD_WORDS};
 use marks::Marks;
-use model::{Answer, Compared, Fault, Model, Outcome, Step};
+use model::{Answer, Compared, Model, Outcome, Release, Step, RELEASES};
+use reads::Reads;
+use releases::Releases;
 use rules::{Counts, Run};
 use std::path::PathBuf;
 use std::process::exit;
@@ -30,6 +36,21 @@ const MAX_TS: u32 = 4_000_000_000;
 
 /// What the library answers.
 type Said = Result<hatukeno::Answer, Refusal>;
+
+/// The library's word for the release.
+fn in_library(release: Release) -> hatukeno::Release {
+    match release {
+        Release::One => hatukeno::Release::One,
+        Release::Two => hatukeno::Release::Two,
+    }
+}
+
+/// The fresh board of both, of an allowed size.
+fn made(n: u32, m: u32, release: Release) -> (Board, Model) {
+    let board = Board::fresh_under(n, m, in_library(release)).expect("an allowed size");
+    let model = Model::fresh_under(n, m, release).expect("an allowed size");
+    (board, model)
+}
 
 fn put(board: &mut Board, step: Step) -> Said {
     match step {
@@ -83,7 +104,7 @@ fn both(board: &mut Board, model: &mut Model, step: Step, fault: Fault) -> Answe
     let after = if expected.outcome.is_ok() { words::write(&next) } else { before };
     if !alike(&library, &expected) || *board.words() != after {
         println!("a difference at {step:?}");
-        println!("the board was {:?}", words::read(&before));
+        println!("the board was {:?}", words::read(&before, 0));
         println!("its words were {before:?}");
         println!("the library answered {library:?}, its words are {:?}", board.words());
         println!("the model answered {expected:?}, its board is {next:?}");
@@ -116,57 +137,92 @@ fn listed(mut board: Board, list: &[hatukeno::Step], answers: &[Answer], last: &
     }
 }
 
-/// The same run as one list, twice over with a refused fresh between, on words that are no well-formed board's.
-fn listed_twice(n: u32, m: u32, steps: &[Step], answers: &[Answer], last: &Board) {
-    let mut run = vec![hatukeno::Step::Fresh { n, m }];
-    run.extend(steps.iter().copied().map(in_list));
-    let list = [run.clone(), vec![hatukeno::Step::Fresh { n: 0, m }], run].concat();
-    let made = [&[Answer::plain(Ok(Outcome::Done))], answers].concat();
-    let answers = [made.clone(), vec![Answer::plain(Err(2))], made].concat();
-    listed(Board::from_words([u32::MAX; BOARD_WORDS]), &list, &answers, last);
+/// A run that was put step by step: its answers, and the board that it left.
+struct Ran {
+    answers: Vec<Answer>,
+    board: Board,
 }
 
-/// One run from a fresh board.
-fn run(n: u32, m: u32, crashes: bool, chance: &mut Chance, fault: Fault, counts: &mut Counts) {
-    let mut board = Board::fresh(n, m).expect("an allowed size");
-    let mut model = Model::fresh(n, m).expect("an allowed size");
-    fresh(n, m);
+/// Puts the steps to a fresh board, one by one.
+fn one_by_one(n: u32, m: u32, release: Release, steps: &[Step], fault: Fault, counts: &mut Counts) -> Ran {
+    let (mut board, mut model) = made(n, m, release);
     let mut held = Run::fresh(n, fault);
-    let (mut steps, mut answers) = (Vec::new(), Vec::new());
-    for _ in 0..LENGTH {
-        let step = chance.step(n, m, crashes);
+    let mut answers = Vec::new();
+    for step in steps {
         let before = board.clone();
-        let answer = both(&mut board, &mut model, step, fault);
-        steps.push(step);
+        let answer = both(&mut board, &mut model, *step, fault);
+        held.take(*step, answer, &before, &board, counts);
         answers.push(answer);
-        held.take(step, answer, &before, &board, counts);
     }
-    listed_twice(n, m, &steps, &answers, &board);
+    Ran { answers, board }
 }
 
-/// A run from a board whose nodes hold tags beside the last timestamp, one by one and as a list: how many deliveries were refused
-/// with 10. Demand 3 does not speak of such a run.
-fn late(n: u32, m: u32, chance: &mut Chance, fault: Fault) -> u64 {
-    let mut model = Model::fresh(n, m).expect("an allowed size");
-    for node in model.nodes.values_mut().take(n as usize) {
-        node.tag = (u64::from(MAX_TS - chance.below(3)), u64::from(chance.below(m)));
-        node.value = chance.value();
+/// The same steps under each release, one by one and as a list with a refused fresh in its midst.
+fn run(n: u32, m: u32, crashes: bool, chance: &mut Chance, fault: Fault, counts: &mut [Counts; 2]) {
+    fresh(n, m);
+    let steps: Vec<Step> = (0..LENGTH).map(|_| chance.step(n, m, crashes)).collect();
+    let list: Vec<hatukeno::Step> = steps.iter().copied().map(in_list).collect();
+    let ran = RELEASES.map(|release| one_by_one(n, m, release, &steps, fault, &mut counts[release as usize]));
+    let half = steps.len() / 2;
+    for (release, Ran { answers, board }) in RELEASES.iter().zip(&ran) {
+        let list = [&list[..half], &[hatukeno::Step::Fresh { n: 0, m }], &list[half..]].concat();
+        let answers = [&answers[..half], &[Answer::plain(Err(2))], &answers[half..]].concat();
+        listed(made(n, m, *release).0, &list, &answers, board);
     }
-    let first = Board::from_words(words::write(&model));
-    let mut board = first.clone();
-    let (mut list, mut answers) = (Vec::new(), Vec::new());
-    for _ in 0..LENGTH {
-        let step = chance.step(n, m, false);
-        answers.push(both(&mut board, &mut model, step, fault));
-        list.push(in_list(step));
-    }
-    listed(first, &list, &answers, &board);
-    answers.iter().filter(|answer| answer.outcome == Err(10)).count() as u64
+    listed_after_fresh(n, m, &list, &ran, fault);
 }
 
-/// A board some steps into a run, fewer than this many.
+/// The same run as a list that begins with a fresh, on a board of release 2 and on words that are no well-formed board's.
+fn listed_after_fresh(n: u32, m: u32, list: &[hatukeno::Step], ran: &[Ran; 2], fault: Fault) {
+    let list = [&[hatukeno::Step::Fresh { n, m }], list].concat();
+    let [_, second] = ran;
+    for start in [*second.board.words(), [2; BOARD_WORDS]] {
+        let fresh = words::read(&start, fault).fresh_in_list(n, m, fault).expect("an allowed size");
+        let Ran { answers, board } = &ran[fresh.release as usize];
+        let answers = [&[Answer::plain(Ok(Outcome::Done))], &answers[..]].concat();
+        listed(Board::from_words(start), &list, &answers, board);
+    }
+}
+
+/// What runs beside the last timestamp show: deliveries refused with 10, and early finishes with the last timestamp, of which
+/// question 10 is not asked.
+#[derive(Default)]
+struct Late {
+    refused: u64,
+    early: u64,
+}
+
+impl Late {
+    /// A run from a board whose nodes hold tags beside the last timestamp, one by one and as a list. Demand 3 does not speak of
+    /// such a run.
+    fn run(&mut self, n: u32, m: u32, release: Release, chance: &mut Chance, fault: Fault) {
+        let (_, mut model) = made(n, m, release);
+        for node in model.nodes.values_mut().take(n as usize) {
+            node.tag = (u64::from(MAX_TS - chance.below(3)), u64::from(chance.below(m)));
+            node.value = chance.value();
+        }
+        let first = Board::from_words(words::write(&model));
+        let mut board = first.clone();
+        let (mut list, mut answers) = (Vec::new(), Vec::new());
+        for _ in 0..LENGTH {
+            let step = chance.step(n, m, false);
+            answers.push(both(&mut board, &mut model, step, fault));
+            list.push(in_list(step));
+        }
+        listed(first, &list, &answers, &board);
+        for Answer { outcome, compared } in answers {
+            match outcome {
+                Err(10) => self.refused += 1,
+                Ok(Outcome::Finished((ts, _), _)) if ts == u64::from(MAX_TS) && compared != Compared::None => self.early += 1,
+                _ => {}
+            }
+        }
+    }
+}
+
+/// A board of either release some steps into a run, fewer than this many.
 fn some_board(n: u32, m: u32, most: u32, chance: &mut Chance) -> Words {
-    let mut board = Board::fresh(n, m).expect("an allowed size");
+    let (mut board, _) = made(n, m, chance.release());
     for _ in 0..chance.below(most) {
         let step = chance.step(n, m, true);
         let _ = put(&mut board, step);
@@ -185,7 +241,7 @@ struct Damaged {
 impl Damaged {
     /// Seven steps on a board of which so many words were set, each from there.
     fn put(&mut self, words: Words, set: u32, (n, m): (u32, u32), chance: &mut Chance, fault: Fault) {
-        let model = words::read(&words);
+        let model = words::read(&words, fault);
         let steps = [
             Step::BeginRead(chance.number(m)),
             Step::BeginWrite(chance.number(m), 7),
@@ -207,8 +263,8 @@ impl Damaged {
     }
 }
 
-/// Numbers on both sides of every edge of well-formedness on a board of n nodes: n and m and what is beside them, states,
-/// frames, small sets and what is beside all n nodes, the last timestamp and what is beside it.
+/// Numbers on both sides of every edge of well-formedness on a board of n nodes: n and m and what is beside them, releases,
+/// states, frames, small sets and what is beside all n nodes, the last timestamp and what is beside it.
 fn edges(n: u32) -> impl Iterator<Item = u32> {
     let far = [2u32.pow(n) - 1, 2u32.pow(n), 255, 256, MAX_TS - 1, MAX_TS, MAX_TS + 1, u32::MAX];
     (0..10).chain(far)
@@ -247,13 +303,27 @@ fn damaged(chance: &mut Chance, fault: Fault, seen: &mut Damaged) {
     seen.put(words, set, (n, m), chance, fault);
 }
 
-/// The fresh board, or its refusal, of both.
+/// The fresh board, or its refusal, of both: with no release named, and under each.
 fn fresh(n: u32, m: u32) {
-    let library = Board::fresh(n, m).map(|b| *b.words()).map_err(|r| r.0);
-    let expected = Model::fresh(n, m).map(|b| words::write(&b));
-    if library != expected {
-        println!("a difference at fresh {n} {m}: {library:?}, {expected:?}");
-        exit(1);
+    let under = |release| (Board::fresh_under(n, m, in_library(release)), Model::fresh_under(n, m, release));
+    for (board, model) in [(Board::fresh(n, m), Model::fresh(n, m)), under(Release::One), under(Release::Two)] {
+        let library = board.map(|b| *b.words()).map_err(|r| r.0);
+        let expected = model.map(|b| words::write(&b));
+        if library != expected {
+            println!("a difference at fresh {n} {m}: {library:?}, {expected:?}");
+            exit(1);
+        }
+    }
+}
+
+/// The fresh in a list, on a board of each release. If it is refused, it leaves the board as it was.
+fn fresh_in_list(n: u32, m: u32, fault: Fault) {
+    for release in RELEASES {
+        let (board, model) = made(3, 2, release);
+        let next = model.fresh_in_list(n, m, fault);
+        let outcome = next.as_ref().map(|_| Outcome::Done).map_err(|refusal| *refusal);
+        let last = Board::from_words(words::write(&next.unwrap_or(model)));
+        listed(board, &[hatukeno::Step::Fresh { n, m }], &[Answer::plain(outcome)], &last);
     }
 }
 
@@ -300,9 +370,9 @@ fn options() -> Options {
             "--damaged" => options.damaged = number,
             "--lines" => options.lines = number,
             "--seed" => options.seed = number,
-            "--fault" if number <= u64::from(schedule::LAST_FAULT) => options.fault = number as Fault,
+            "--fault" if number <= u64::from(faults::LAST) => options.fault = number as Fault,
             "--fault" => {
-                eprintln!("compare: there is no fault {number}; the last is {}", schedule::LAST_FAULT);
+                eprintln!("compare: there is no fault {number}; the last is {}", faults::LAST);
                 exit(2);
             }
             _ => {
@@ -314,22 +384,31 @@ fn options() -> Options {
     options
 }
 
+/// The sizes in the order in which they are counted and printed.
+fn sizes() -> impl Iterator<Item = (u32, u32)> {
+    (0..40).map(|i| (1 + i / 8, 1 + i % 8))
+}
+
 /// A row for each size.
-fn print_sizes(counts: &[Counts]) {
-    println!(" n  m  finished  most  mean  2(n + q)");
-    for (i, t) in counts.iter().enumerate() {
-        let (n, m) = (1 + i as u64 / 8, 1 + i as u64 % 8);
-        let mean = t.sum as f64 / t.finished.max(1) as f64;
-        println!("{n:2} {m:2} {:9} {:5} {mean:5.2} {:9}", t.finished, t.most, 2 * (n + n / 2 + 1));
+fn print_sizes(counts: &[[Counts; 2]]) {
+    println!("accepted deliveries of a finished operation, the same steps under both releases");
+    println!("        release 1             release 2");
+    println!(" n  m  finished  most  mean  finished  most  mean  2(n + q)");
+    for ((n, m), of_size) in sizes().zip(counts) {
+        let [one, two] = of_size.each_ref().map(|counts| {
+            let finished = counts.finished;
+            format!("{:9} {:5} {:5.2}", finished.operations, finished.most, finished.mean())
+        });
+        println!("{n:2} {m:2} {one} {two} {:9}", 2 * (n + n / 2 + 1));
     }
 }
 
-/// The counts of all sizes together.
-fn sum(counts: &[Counts], of: fn(&Counts) -> u64) -> u64 {
-    counts.iter().map(of).sum()
+/// The counts of all sizes and both releases together.
+fn sum(counts: &[[Counts; 2]], of: fn(&Counts) -> u64) -> u64 {
+    counts.iter().flatten().map(of).sum()
 }
 
-fn print_node_ups(counts: &[Counts]) {
+fn print_node_ups(counts: &[[Counts; 2]]) {
     println!(
         "{} node ups were accepted, {} of them with frames waiting for the node; {} times a console with no frame to deliver had one again",
         sum(counts, |t| t.node_ups),
@@ -343,27 +422,28 @@ fn print_node_ups(counts: &[Counts]) {
 }
 
 /// Whether nodes came back with frames waiting for them and with none, twice in a row, and so that a console went on.
-fn shows_node_ups(counts: &[Counts]) -> bool {
+fn shows_node_ups(counts: &[[Counts; 2]]) -> bool {
     let ways: [fn(&Counts) -> u64; 4] = [|t| t.waited_for, |t| t.node_ups - t.waited_for, |t| t.twice, |t| t.again];
     ways.into_iter().all(|way| sum(counts, way) > 0)
 }
 
-fn print_replies(counts: &[Counts]) {
+fn print_replies(counts: &[[Counts; 2]]) {
     println!(
-        "{} replies taken in were lower, {} the same, {} higher; {} set the mark, {} kept it, {} cleared it by a differing tag, {} by the turn",
+        "{} replies taken in were lower, {} the same, {} higher; {} set the mark, {} kept it, {} cleared it by a differing tag, {} by the turn, {} by an early finish",
         sum(counts, |t| t.lower),
         sum(counts, |t| t.same),
         sum(counts, |t| t.higher),
         sum(counts, |t| t.set),
         sum(counts, |t| t.kept),
         sum(counts, |t| t.cleared),
-        sum(counts, |t| t.turned)
+        sum(counts, |t| t.turned),
+        sum(counts, |t| t.ended)
     );
 }
 
 /// Whether replies compared in every way, and did to the mark all that a reply can.
-fn shows_replies(counts: &[Counts]) -> bool {
-    let ways: [fn(&Counts) -> u64; 7] = [
+fn shows_replies(counts: &[[Counts; 2]]) -> bool {
+    let ways: [fn(&Counts) -> u64; 8] = [
         |t| t.lower,
         |t| t.same,
         |t| t.higher,
@@ -371,35 +451,44 @@ fn shows_replies(counts: &[Counts]) -> bool {
         |t| t.kept,
         |t| t.cleared,
         |t| t.turned,
+        |t| t.ended,
     ];
     ways.into_iter().all(|way| sum(counts, way) > 0)
 }
 
 /// All that was seen of the library.
+#[derive(Default)]
 struct Seen {
     steps: u64,
-    counts: Vec<Counts>,
-    /// Deliveries refused with 10 in the runs beside the last timestamp.
-    without_next: u64,
+    /// For each size, under each release.
+    counts: Vec<[Counts; 2]>,
+    late: Late,
     marks: Marks,
+    releases: Releases,
     damaged: Damaged,
+    reads: Reads,
 }
 
 impl Seen {
     fn print(&self, seed: u64) {
         let Damaged { ill, by_one, well } = self.damaged;
         print_sizes(&self.counts);
-        println!("seed {seed}: {} steps on 40 sizes agree, one by one and as lists", self.steps);
+        println!(
+            "seed {seed}: {} steps on 40 sizes under both releases agree, one by one and as lists",
+            self.steps
+        );
         println!(
             "and 7 steps on each of {ill} damaged boards, {by_one} of them by one word, and of {well} that were well formed all the same"
         );
         println!(
-            "and runs beside the last timestamp, {} of their deliveries refused with 10",
-            self.without_next
+            "and runs beside the last timestamp, {} of their deliveries refused with 10, {} early finishes with the last timestamp",
+            self.late.refused, self.late.early
         );
         self.marks.print();
+        self.releases.print();
         print_node_ups(&self.counts);
         print_replies(&self.counts);
+        self.reads.print();
     }
 
     /// Ends the program if something was not seen that is to be compared.
@@ -410,8 +499,8 @@ impl Seen {
             "replies"
         } else if !self.marks.shows_all() {
             "the mark"
-        } else if self.without_next == 0 {
-            "refusal 10"
+        } else if self.late.refused == 0 || self.late.early == 0 {
+            "the last timestamp"
         } else {
             return;
         };
@@ -424,33 +513,34 @@ impl Seen {
 fn library(steps: u64, boards: u64, seed: u64, fault: Fault) {
     for (n, m) in [(0, 0), (0, 9), (5, 8), (6, 1), (5, 9), (5, 0), (u32::MAX, 1), (1, u32::MAX)] {
         fresh(n, m);
+        fresh_in_list(n, m, fault);
     }
     // A fault is to be found by the runs by chance.
     if fault == 0 {
         known::runs();
     }
 
-    let sizes: Vec<(u32, u32)> = (0..40).map(|i| (1 + i / 8, 1 + i % 8)).collect();
     let mut chance = Chance(seed);
     let mut seen = Seen {
-        steps: 0,
-        counts: vec![Counts::default(); 40],
-        without_next: 0,
-        marks: Marks::default(),
-        damaged: Damaged::default(),
+        counts: vec![Default::default(); 40],
+        ..Default::default()
     };
     let mut crashes = true;
     while seen.steps < steps {
-        for ((n, m), of_size) in sizes.iter().zip(&mut seen.counts) {
-            run(*n, *m, crashes, &mut chance, fault, of_size);
-            seen.steps += u64::from(LENGTH);
+        for ((n, m), of_size) in sizes().zip(&mut seen.counts) {
+            run(n, m, crashes, &mut chance, fault, of_size);
+            seen.steps += 2 * u64::from(LENGTH);
         }
         crashes = !crashes;
     }
-    for (n, m) in sizes {
-        seen.without_next += late(n, m, &mut chance, fault);
+    for (n, m) in sizes() {
+        for release in RELEASES {
+            seen.late.run(n, m, release, &mut chance, fault);
+        }
         seen.marks.draw(n, m, &mut chance, fault);
+        seen.releases.draw(n, m, &mut chance, fault);
         swept(n, m, &mut chance, fault, &mut seen.damaged);
+        seen.reads.run(n, m, &mut chance, fault);
     }
     while seen.damaged.ill < boards {
         damaged(&mut chance, fault, &mut seen.damaged);
@@ -459,6 +549,7 @@ fn library(steps: u64, boards: u64, seed: u64, fault: Fault) {
     seen.print(seed);
     if fault == 0 {
         seen.hold();
+        seen.reads.hold();
     }
 }
 
@@ -472,17 +563,13 @@ fn main() {
         }
         return;
     }
-    // A fault of the board or of demand 3's rules is to be found by its steps, one of the rules for lines by schedules.
-    let lines = if (1..=rules::LAST_FAULT).contains(&fault) {
-        0
-    } else {
-        options.lines
-    };
+    let by_lines = faults::is_of_lines(fault);
+    let lines = if fault == 0 || by_lines { options.lines } else { 0 };
     if lines > 0 && !options.rack.is_file() {
         eprintln!("compare: there is no program {}; rt check rack writes it", options.rack.display());
         exit(2);
     }
-    if fault <= rules::LAST_FAULT {
+    if !by_lines {
         library(options.steps, options.damaged, seed, fault);
     }
     if lines > 0 {

@@ -1,7 +1,8 @@
 //! Paper 3's rule for the mark, clause by clause: boards on which one console's mark is wrong and all else is as a run left it, and
 //! beside each the same board with the mark put right.
 use crate::chance::Chance;
-use crate::model::{Console, Fault, State, Step};
+use crate::faults::Fault;
+use crate::model::{Console, State, Step};
 use crate::words::{self, place_of_mark, Words};
 use crate::{both, in_list, listed, put, some_board};
 use hatukeno::{Board, Refusal};
@@ -95,7 +96,7 @@ impl Marks {
 
     /// Tries the board with this console's mark on and with it off, unless there are enough such boards.
     fn try_console(&mut self, words: Words, c: u32, chance: &mut Chance, fault: Fault) {
-        let here = place(&words::read(&words).consoles[&c]);
+        let here = place(&words::read(&words, fault).consoles[&c]);
         let tried = &mut self.tried[here as usize];
         if *tried == OF_EACH {
             return;
@@ -140,7 +141,7 @@ impl Marks {
 /// Every kind of step on the board, each from there, and all of them as one list: refused with 1 if the board is not good, and
 /// else not, and as the model answers.
 fn try_board(words: Words, c: u32, is_good: bool, chance: &mut Chance, fault: Fault) {
-    let model = words::read(&words);
+    let model = words::read(&words, fault);
     let k = chance.below(model.n);
     let steps = [
         Step::BeginRead(c),

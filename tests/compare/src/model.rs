@@ -1,4 +1,5 @@
-//! The board as document 01 and Papers 2 and 3 say it, in sets and maps. Nothing here is shared with the library.
+//! The board as document 01 and Papers 2 to 4 say it, in sets and maps. Nothing here is shared with the library.
+use crate::faults::*;
 use std::cmp::Ordering;
 use std::collections::{BTreeMap, BTreeSet};
 
@@ -47,11 +48,21 @@ pub struct Console {
     pub alike: bool,
 }
 
+/// What a board is made under, and keeps (Paper 4).
+#[derive(Clone, Copy, Debug, PartialEq, Eq)]
+pub enum Release {
+    One,
+    Two,
+}
+
+pub const RELEASES: [Release; 2] = [Release::One, Release::Two];
+
 /// Nodes 0 to 4 and consoles 0 to 7 are always there; a cell is there if it holds a frame.
 #[derive(Clone, Debug, PartialEq, Eq)]
 pub struct Model {
     pub n: u32,
     pub m: u32,
+    pub release: Release,
     pub nodes: BTreeMap<u32, Node>,
     pub consoles: BTreeMap<u32, Console>,
     pub cells: BTreeMap<(u32, u32), Frame>,
@@ -113,28 +124,6 @@ impl Answer {
     }
 }
 
-/// A deliberate fault, to show that a comparison can fail. 0 is none; those after the last here are in rules.rs and schedule.rs.
-pub type Fault = u32;
-pub const READ_UNTOLD: Fault = 1;
-pub const TS_ONLY: Fault = 2;
-pub const SET_KEPT: Fault = 3;
-pub const EQUAL_TAKEN: Fault = 4;
-pub const NEXT_AFTER_READ: Fault = 5;
-pub const CELLS_CLEARED: Fault = 6;
-pub const NINE_CONSOLES: Fault = 7;
-pub const DISK_LOST: Fault = 8;
-pub const UP_BEFORE_NUMBER: Fault = 9;
-pub const WAITING_LOST: Fault = 10;
-pub const UP_TWICE: Fault = 11;
-pub const NEW_BEST_COMPARED: Fault = 12;
-pub const MARK_BY_ANY: Fault = 13;
-pub const MARK_KEPT_AT_TURN: Fault = 14;
-pub const REFUSED_COMPARED: Fault = 15;
-pub const MARK_KEPT_BY_LOWER: Fault = 16;
-pub const DISCARDED_COMPARED: Fault = 17;
-pub const ONE_UNMARKED: Fault = 18;
-pub const LAST_FAULT: Fault = ONE_UNMARKED;
-
 fn fresh_node() -> Node {
     Node {
         up: true,
@@ -187,6 +176,16 @@ impl Console {
 
 impl Model {
     pub fn fresh(n: u32, m: u32) -> Result<Model, u32> {
+        Model::fresh_under(n, m, Release::One)
+    }
+
+    /// Step number 0 of a list makes release 1, whatever the release of this board.
+    pub fn fresh_in_list(&self, n: u32, m: u32, fault: Fault) -> Result<Model, u32> {
+        let release = if fault == LIST_KEEPS_RELEASE { self.release } else { Release::One };
+        Model::fresh_under(n, m, release)
+    }
+
+    pub fn fresh_under(n: u32, m: u32, release: Release) -> Result<Model, u32> {
         if !(1..=5).contains(&n) {
             return Err(2);
         }
@@ -196,6 +195,7 @@ impl Model {
         Ok(Model {
             n,
             m,
+            release,
             nodes: (0..5).map(|k| (k, fresh_node())).collect(),
             consoles: (0..8).map(|c| (c, at_rest(State::Idle))).collect(),
             cells: BTreeMap::new(),
@@ -253,8 +253,8 @@ impl Model {
             return self.refused(1);
         }
         match step {
-            Step::BeginRead(c) => self.begin(c, Kind::Read, 0),
-            Step::BeginWrite(c, v) => self.begin(c, Kind::Write, v),
+            Step::BeginRead(c) => self.begin(c, Kind::Read, 0, fault),
+            Step::BeginWrite(c, v) => self.begin(c, Kind::Write, v, fault),
             Step::Deliver(c, k) => self.deliver(c, k, fault),
             Step::NodeDown(k) => {
                 if k >= self.n {
@@ -316,7 +316,7 @@ impl Model {
         next.after(Outcome::Done)
     }
 
-    fn begin(&self, c: u32, kind: Kind, wanted: u32) -> (Answer, Model) {
+    fn begin(&self, c: u32, kind: Kind, wanted: u32, fault: Fault) -> (Answer, Model) {
         if c >= self.m {
             return self.refused(4);
         }
@@ -334,6 +334,9 @@ impl Model {
             },
         );
         next.send_all(c, Frame::Ask);
+        if fault == RELEASE_LOST {
+            next.release = Release::One;
+        }
         next.after(Outcome::Done)
     }
 
@@ -393,19 +396,60 @@ impl Model {
             _ => return next.after(Outcome::Discarded),
         };
         let compared = x.take_reply(k, tag, value, fault);
-        let outcome = if x.answered.len() < self.majority() {
+        let answers = x.answered.len();
+        let short = usize::from(fault == EARLY_ONE_SHORT);
+        let outcome = if answers + short >= self.majority() && self.is_early(x, c, kind, fault) {
+            next.finish_early(c, fault)
+        } else if answers < self.majority() {
             Ok(Outcome::Heard)
         } else {
             next.turn(c, kind, fault)
         };
         match outcome {
+            Ok(Outcome::Finished(..)) if fault == EARLY_UNCOMPARED => (Answer::plain(outcome), next),
             Err(refusal) if fault != REFUSED_COMPARED => self.refused(refusal),
             Err(_) => (Answer { outcome, compared }, self.clone()),
             Ok(_) => (Answer { outcome, compared }, next),
         }
     }
 
-    /// The console has heard a majority.
+    /// Paper 4: whether the console, as this reply left it, may finish without telling. The mark is the one after the reply.
+    fn is_early(&self, x: &Console, c: u32, kind: Kind, fault: Fault) -> bool {
+        let alike = match fault {
+            EARLY_UNALIKE => true,
+            EARLY_BY_OLD_MARK => self.consoles[&c].alike,
+            _ => x.alike,
+        };
+        (self.release == Release::Two || fault == EARLY_UNDER_ONE) && (kind == Kind::Read || fault == EARLY_WRITE) && alike
+    }
+
+    /// Paper 4: the console has heard a majority, all alike. It finishes with its best, and its other cells stay as they are.
+    fn finish_early(&mut self, c: u32, fault: Fault) -> Result<Outcome, u32> {
+        let x = self.consoles.get_mut(&c).unwrap();
+        let (best, value) = (x.best, x.value);
+        if fault == EARLY_ASKS_10 && best.0 >= MAX_TS {
+            return Err(10);
+        }
+        let idle = at_rest(State::Idle);
+        *x = match fault {
+            EARLY_STAYS_TELLING => Console {
+                best,
+                value,
+                ..at_rest(State::Telling(Kind::Read))
+            },
+            EARLY_KEEPS_BEST => Console { best, value, ..idle },
+            EARLY_KEEPS_MARK => Console { alike: true, ..idle },
+            _ => idle,
+        };
+        match fault {
+            EARLY_CLEARS_CELLS => self.cells.retain(|(d, _), _| *d != c),
+            EARLY_SENDS_PUTS => self.send_all(c, Frame::Put(best, value)),
+            _ => {}
+        }
+        Ok(Outcome::Finished(best, value))
+    }
+
+    /// The console has heard a majority, and tells.
     fn turn(&mut self, c: u32, kind: Kind, fault: Fault) -> Result<Outcome, u32> {
         let x = self.consoles.get_mut(&c).unwrap();
         if kind == Kind::Write {

@@ -1,25 +1,41 @@
 //! Demand 3's three rules, held to a run of the library by its steps and their answers alone: the progress rule with Paper 2's
-//! majority after each accepted step, the delivery bound at each delivery, the freshness rule at each finish. And what the runs
+//! majority after each accepted step, the delivery bound at each delivery, the freshness rule at each finish. They are the same
+//! under both releases; an early finish (Paper 4) is held to half the bound besides, since it takes one phase. And what the runs
 //! show, counted: finishes, node ups, and how replies compared and what they did to the mark.
-use crate::model::{self, Answer, Compared, Fault, Outcome, Step, Tag};
+use crate::faults::{Fault, BOUND_ONE_LESS, EARLY_BOUND_ONE_LESS, MAJORITY_ONE_LESS, READS_HIGHER};
+use crate::model::{Answer, Compared, Outcome, Step, Tag};
 use crate::words::place_of_mark;
 use hatukeno::{Board, Refusal};
 use std::collections::{BTreeMap, BTreeSet};
 use std::process::exit;
 
-/// Faults in the rules, after those of the model: to show that a rule can be broken.
-pub const BOUND_ONE_LESS: Fault = model::LAST_FAULT + 1;
-pub const MAJORITY_ONE_LESS: Fault = model::LAST_FAULT + 2;
-pub const READS_HIGHER: Fault = model::LAST_FAULT + 3;
-pub const LAST_FAULT: Fault = READS_HIGHER;
+/// Finished operations, and their accepted deliveries: of all together, and the most of one.
+#[derive(Clone, Copy, Default)]
+pub struct Finished {
+    pub operations: u64,
+    pub deliveries: u64,
+    pub most: u64,
+}
 
-/// What was seen in the runs on one size.
+impl Finished {
+    fn add(&mut self, taken: u64) {
+        self.operations += 1;
+        self.deliveries += taken;
+        self.most = self.most.max(taken);
+    }
+
+    pub fn mean(&self) -> f64 {
+        self.deliveries as f64 / self.operations.max(1) as f64
+    }
+}
+
+/// What was seen in the runs on one size under one release.
 #[derive(Clone, Default)]
 pub struct Counts {
-    /// Finished operations, and their accepted deliveries: of all together, and the most of one.
-    pub finished: u64,
-    pub sum: u64,
-    pub most: u64,
+    /// All finished operations, the reads among them, and the early finishes among these.
+    pub finished: Finished,
+    pub reads: Finished,
+    pub early: Finished,
     /// Accepted node ups, those of them with a frame waiting for the node, and how many times a console with no frame to deliver
     /// had one again after one of them.
     pub node_ups: u64,
@@ -31,11 +47,12 @@ pub struct Counts {
     pub lower: u64,
     pub same: u64,
     pub higher: u64,
-    /// Replies taken in that set the mark, kept it on, cleared it by a differing tag, and cleared it by the turn.
+    /// Replies taken in that set the mark, kept it on, cleared it by a differing tag, by the turn, and by an early finish.
     pub set: u64,
     pub kept: u64,
     pub cleared: u64,
     pub turned: u64,
+    pub ended: u64,
 }
 
 impl Counts {
@@ -48,12 +65,13 @@ impl Counts {
             Compared::Higher => self.higher += 1,
         }
         let is_on = |board: &Board| board.words()[place_of_mark(c)] != 0;
-        match (is_on(from), is_on(to)) {
-            (false, true) => self.set += 1,
-            (true, true) => self.kept += 1,
-            (true, false) if answer.outcome == Ok(Outcome::Heard) => self.cleared += 1,
-            (true, false) => self.turned += 1,
-            (false, false) => {}
+        match (is_on(from), is_on(to), answer.outcome) {
+            (false, true, _) => self.set += 1,
+            (true, true, _) => self.kept += 1,
+            (true, false, Ok(Outcome::Heard)) => self.cleared += 1,
+            (true, false, Ok(Outcome::Turned)) => self.turned += 1,
+            (true, false, _) => self.ended += 1,
+            (false, false, _) => {}
         }
     }
 }
@@ -91,20 +109,20 @@ impl Run {
             counts.add_delivery(c, answer, from, to);
         }
         match (step, answer.outcome) {
-            (_, Ok(outcome)) => self.accept(step, outcome, from, to, counts),
+            (_, Ok(_)) => self.accept(step, answer, from, to, counts),
             (Step::NodeDown(_), Err(9)) | (Step::NodeUp(_), Err(14)) => counts.twice += 1,
             _ => {}
         }
     }
 
-    fn accept(&mut self, step: Step, outcome: Outcome, from: &Board, to: &Board, counts: &mut Counts) {
+    fn accept(&mut self, step: Step, answer: Answer, from: &Board, to: &Board, counts: &mut Counts) {
         match step {
             Step::BeginRead(c) => self.begin(c, false),
             Step::BeginWrite(c, _) => self.begin(c, true),
             Step::ConsoleDown(c) => {
                 self.open.remove(&c);
             }
-            Step::Deliver(c, _) => self.deliver(c, outcome, counts),
+            Step::Deliver(c, _) => self.deliver(c, answer, counts),
             Step::NodeDown(k) => {
                 self.down.insert(k);
             }
@@ -123,22 +141,31 @@ impl Run {
         self.open.insert(c, Open { wrote, taken: 0, before });
     }
 
-    fn deliver(&mut self, c: u32, outcome: Outcome, counts: &mut Counts) {
-        let most = 2 * u64::from(self.n + self.majority()) - u64::from(self.fault == BOUND_ONE_LESS);
+    fn deliver(&mut self, c: u32, answer: Answer, counts: &mut Counts) {
+        let one_phase = u64::from(self.n + self.majority());
         let Some(operation) = self.open.get_mut(&c) else {
             return;
         };
         operation.taken += 1;
-        let taken = operation.taken;
+        let (taken, wrote) = (operation.taken, operation.wrote);
+        self.hold_bound(taken, 2 * one_phase - u64::from(self.fault == BOUND_ONE_LESS));
+        if let Ok(Outcome::Finished(tag, _)) = answer.outcome {
+            counts.finished.add(taken);
+            if !wrote {
+                counts.reads.add(taken);
+            }
+            if answer.compared != Compared::None {
+                counts.early.add(taken);
+                self.hold_bound(taken, one_phase - u64::from(self.fault == EARLY_BOUND_ONE_LESS));
+            }
+            self.finish(c, tag);
+        }
+    }
+
+    fn hold_bound(&self, taken: u64, most: u64) {
         if taken > most {
             println!("n = {}: an operation took {taken} deliveries, more than {most}", self.n);
             exit(1);
-        }
-        if let Outcome::Finished(tag, _) = outcome {
-            counts.finished += 1;
-            counts.sum += taken;
-            counts.most = counts.most.max(taken);
-            self.finish(c, tag);
         }
     }
 

@@ -1,7 +1,8 @@
 //! The program of Papers 1 and 2 as they say it: the bytes of a whole input, and the bytes of the whole output. Nothing here is
-//! shared with the program. The lines are document 01's ('Lines that programs read and write'), the steps those of model.rs.
-use crate::model::{Fault, Model, Outcome, Step};
-use crate::rules;
+//! shared with the program. The lines are document 01's ('Lines that programs read and write'), the steps those of model.rs on
+//! boards of release 1 (Paper 4).
+use crate::faults::*;
+use crate::model::{Model, Outcome, Release, Step};
 use std::io::Write;
 
 /// The most bytes of a line, its end not counted.
@@ -10,23 +11,6 @@ const LONGEST: usize = 64;
 const TOO_LONG: u32 = 13;
 const NOT_THREE_FIELDS: u32 = 11;
 const UNKNOWN_VERB: u32 = 12;
-
-/// Faults in the rules for lines; their numbers go on from those of the board.
-pub const LIMIT_63: Fault = rules::LAST_FAULT + 1;
-pub const LIMIT_65: Fault = rules::LAST_FAULT + 2;
-pub const CR_COUNTED: Fault = rules::LAST_FAULT + 3;
-pub const LAST_CR_LEFT_OFF: Fault = rules::LAST_FAULT + 4;
-pub const BOTH_CRS_LEFT_OFF: Fault = rules::LAST_FAULT + 5;
-pub const LAST_LINE_LOST: Fault = rules::LAST_FAULT + 6;
-pub const EMPTY_UNANSWERED: Fault = rules::LAST_FAULT + 7;
-pub const FIELDS_BEFORE_LENGTH: Fault = rules::LAST_FAULT + 8;
-pub const VERB_BEFORE_FIELDS: Fault = rules::LAST_FAULT + 9;
-pub const NUMBER_WRAPS: Fault = rules::LAST_FAULT + 10;
-pub const HALF_QUOTED: Fault = rules::LAST_FAULT + 11;
-pub const UNUSED_UNREAD: Fault = rules::LAST_FAULT + 12;
-pub const SMALL_BOARD_TAKEN: Fault = rules::LAST_FAULT + 13;
-pub const NODE_UP_UNKNOWN: Fault = rules::LAST_FAULT + 14;
-pub const LAST_FAULT: Fault = NODE_UP_UNKNOWN;
 
 /// What a line is answered: the outcome, or the refusal. Paper 3 leaves lines as they are: how a reply compared is not in them.
 pub type Answer = Result<Outcome, u32>;
@@ -69,15 +53,17 @@ fn end_length(piece: &[u8], fault: Fault) -> usize {
 /// The answers to all lines of an input, from the board of one node and one console. A refused line changes nothing, and the run
 /// goes on.
 pub fn answers(input: &[u8], fault: Fault) -> Vec<Answer> {
-    let mut board = one_and_one();
+    let mut board = made(1, 1, fault).expect("an allowed size");
     lines(input, fault)
         .into_iter()
         .map(|line| answer(&mut board, line, fault))
         .collect()
 }
 
-fn one_and_one() -> Model {
-    Model::fresh(1, 1).expect("an allowed size")
+/// A board of the program.
+fn made(n: u32, m: u32, fault: Fault) -> Result<Model, u32> {
+    let release = if fault == LINES_UNDER_TWO { Release::Two } else { Release::One };
+    Model::fresh_under(n, m, release)
 }
 
 /// Three questions put to the line, then the step.
@@ -164,11 +150,11 @@ fn take(board: &mut Model, [verb, first, second]: [u32; 3], fault: Fault) -> Ans
 }
 
 fn fresh(board: &mut Model, n: u32, m: u32, fault: Fault) -> Answer {
-    let made = Model::fresh(n, m);
-    if fault == SMALL_BOARD_TAKEN && made.is_err() {
-        *board = one_and_one();
+    let next = made(n, m, fault);
+    if fault == SMALL_BOARD_TAKEN && next.is_err() {
+        *board = made(1, 1, fault)?;
     }
-    *board = made?;
+    *board = next?;
     Ok(Outcome::Done)
 }
 

@@ -1,7 +1,8 @@
 //! Puts schedules to the program and to the model, and stops at the first difference.
 use crate::chance::Chance;
 use crate::drawing::{edges, Drawing};
-use crate::model::{Fault, Outcome};
+use crate::faults::Fault;
+use crate::model::Outcome;
 use crate::schedule::{answers, lines, written, Answer};
 use std::collections::BTreeMap;
 use std::io::{self, Read, Write};
