@@ -1,6 +1,5 @@
 -- Runs of Paper 4 (document 02), under release 2 and one beside it under release 1: what every step must answer, and what must be
--- left on the board.
--- proofs/PRunsHold.antt proves that the definitions give all of it.
+-- left on the board. proofs/PRunsHold.antt proves that the definitions give all of it.
 use mathlib.Core.Bool.{true, false}
 use mathlib.Core.List.{List, [], _∷_, _++_}
 use Rattle.parts.specs.declared.Compared.the-variants.{None, Same, Higher}
@@ -36,7 +35,7 @@ made =
 abbrev onThreeTwo : List Line → List Line
 onThreeTwo ls = Make (setupOf 3 2 Two) gives done ∷ ls
 
--- a read on a board where nothing was written: the second reply finishes it, where release 1 turns
+-- a read by nodes 0 and 2 of a board where nothing was written, and what its second reply answers
 abbrev readsTwo : Seen → List Line
 readsTwo last =
     read 0 gives done
@@ -46,12 +45,13 @@ readsTwo last =
     ∷ deliver 0 2 gives last
     ∷ []
 
--- the ask to node 1 is left, and all else of the board is as it was
+-- it finishes the read: the ask to node 1 is left, and all else of the board is as it was
 quiet : List Line
 quiet = onThreeTwo (readsTwo (finished (tag 0 0) 0) ++ (Whole gives Is (withFrame (freshBoard (setupOf 3 2 Two)) 0 1 Ask) ∷ []))
 
-loud : List Line
-loud = Make (setupOf 3 2 One) gives done ∷ readsTwo turned ++ (CellOf 0 1 gives Frames (Put (tag 0 0) 0) ∷ [])
+-- under release 1 it turns the read, and the ask to node 1 becomes a put
+under-one : List Line
+under-one = Make (setupOf 3 2 One) gives done ∷ readsTwo turned ++ (CellOf 0 1 gives Frames (Put (tag 0 0) 0) ∷ [])
 
 -- after P2, nodes 0 and 2 reply (1, 1): the read returns it, and node 1 is not told. Its reply is left, and thrown away in the end
 agreed : List Line
@@ -87,8 +87,8 @@ single =
     ∷ []
 
 unfoldable pub quietRuns : List PRun
-unfolding made quiet loud agreed differing single
-quietRuns = run 1 blank made ∷ run 2 blank quiet ∷ run 3 blank loud ∷ run 4 blank agreed ∷ run 5 blank differing ∷ run 6 blank single ∷ []
+unfolding made quiet under-one agreed differing single
+quietRuns = run 1 blank made ∷ run 2 blank quiet ∷ run 3 blank under-one ∷ run 4 blank agreed ∷ run 5 blank differing ∷ run 6 blank single ∷ []
 
 -- ---- what they say of the replies, and how the mark stands
 

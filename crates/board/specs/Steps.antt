@@ -26,8 +26,8 @@ setupOf n m release = record { n = n; m = m; release = release }
 abbrev pub smallest : Setup
 smallest = setupOf 1 1 One
 
--- 'Fresh takes n and m'; it names no outcome, and so 'gives done'. 'A board is made under one release' (document 02, Paper 4):
--- 1 where none is named
+-- 'Fresh takes n and m'; it names no outcome, and so 'gives done'. The board 'is made under one release' (document 02, Paper 4),
+-- that of σ
 unfoldable pub fresh : Setup → Answer
 fresh σ =
     guarded

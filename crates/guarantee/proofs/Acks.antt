@@ -18,7 +18,7 @@ use Rattle.board.specs.Boards.{consoleAt, frameAt, withConsole, withFrame}
 use Rattle.board.specs.Deliver.{finished}
 use Rattle.board.specs.declared.Board.{Board}
 use Rattle.guarantee.proofs.Tags.{key}
-use Rattle.guarantee.proofs.States.{tell-size-for, telling-waits}
+use Rattle.guarantee.proofs.States.{telling-waits}
 use Rattle.guarantee.proofs.Rows.{Held, RowOk, acked-floor, acked-row, finished-held}
 use Rattle.guarantee.proofs.Boards.{TagKind, tags}
 use Rattle.guarantee.proofs.Consoles.{WaitsOk, acked-ok}
@@ -37,9 +37,6 @@ module _ {K : TagKind} {σ : Setup} {b : Board} {c k : ℕ} (d : Delivery K σ b
 
   was-waiting : WaitsOk σ (consoleAt b c .state) (consoleAt b c)
   was-waiting = waiting d (telling-waits (consoleAt b c .state) p)
-
-  fewer : size (consoleAt b c .answered) < tellSize σ
-  fewer = omega (arith, was-waiting .fewer, tell-size-for σ (consoleAt b c .state) p)
 
   ack-row : RowOk σ x₁ row₁ (tags b)
   ack-row = acked-row σ (five d) k (d .k-n) (consoleAt b c) (frameAt b c) row₁ (tags b) p (was-waiting .small) e (change d Nothing) (row-of d)

@@ -22,7 +22,7 @@ use Rattle.board.specs.Steps.{begin, begun, consoleDown, fresh, nodeDown, nodeU
 use Rattle.board.specs.WellFormed.{wellFormed}
 use Rattle.guarantee.specs.Claim.{HasDeliverable, here}
 use Rattle.guarantee.specs.Log.{Run, after, next, noted, ofConsole, run, start, tally, upAfter, writesBegun}
-use Rattle.guarantee.specs.Reached.{all-back-refusals, all-back-steps, back-refusals, back-steps, late-log, late-steps, loud-log, mixed-log, mixed-steps, p4-log, p4-steps, quiet-log, quiet-steps, stuck-log, stuck-refusals, stuck-steps}
+use Rattle.guarantee.specs.Reached.{all-back-refusals, all-back-steps, back-refusals, back-steps, late-log, late-steps, mixed-log, mixed-steps, p4-log, p4-steps, quiet-log, quiet-log-under-1, quiet-steps, stuck-log, stuck-refusals, stuck-steps}
 use Rattle.guarantee.proofs.Theorem.{demand-3}
 
 -- a run with every definition opened
@@ -95,6 +95,6 @@ quiet-early : whole (setupOf 3 2 Two) quiet-steps .ops ≡ quiet-log
 unfolding whole quiet-steps quiet-log
 quiet-early = refl
 
-loud-turned : whole (setupOf 3 2 One) quiet-steps .ops ≡ loud-log
-unfolding whole quiet-steps loud-log
-loud-turned = refl
+quiet-turned : whole (setupOf 3 2 One) quiet-steps .ops ≡ quiet-log-under-1
+unfolding whole quiet-steps quiet-log-under-1
+quiet-turned = refl

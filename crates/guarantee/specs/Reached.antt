@@ -141,8 +141,8 @@ quiet-log =
     ∷ []
 
 -- under release 1 the same steps leave the read open: it has turned, and the last delivery hands a put to node 1
-unfoldable pub loud-log : List Op
-loud-log =
+unfoldable pub quiet-log-under-1 : List Op
+quiet-log-under-1 =
     record { console = 0; wrote = false; began = 10; took = 6; turned = true; status = Open; ended = 0; tag = zeroTag; value = 0 }
     ∷ record { console = 1; wrote = true; began = 1; took = 8; turned = true; status = Complete; ended = 9; tag = one-one; value = 7 }
     ∷ []

@@ -1,7 +1,13 @@
 -- Each return is one way through the clauses; the count of ones is the set's size.
-use mathlib.Core.Path.{sym}
+use Prim.Native.Nat.{ℕ}
+use mathlib.Core.Bool.{false}
+use mathlib.Core.Path.{sym, _≡_}
 use borrow.Author.Needs.{needs}
 use borrow.Author.Tests.{lt-ltb, le-ltb}
+use Rattle.parts.specs.AnsweredSet.{onlyBelow}
+use Rattle.parts.specs.declared.Console.{Console}
+use Rattle.parts.specs.declared.Kind.{Kind}
+use Rattle.parts.specs.declared.Setup.{Setup}
 use Rattle.parts.proofs.FiniteLaws.{said-no, said-yes}
 use Rattle.checks.specs.Clauses.{waitOk}
 use Rattle.checks.proofs.consoles.is_wait_ok.Statement.{statement}
@@ -10,9 +16,13 @@ use Rattle.checks.proofs.consoles.is_wait_ok.Tie as tie
 is-only-below-requires : tie.Need-is-only-below-requires
 is-only-below-requires c κs = search needs
 
-returns : tie.Need-returns
+-- the set alone is enough for a no
+set-refused : (σ : Setup) (q : ℕ) (w : Kind) (x : Console) → onlyBelow (σ .n) (x .answered) ≡ false → false ≡ waitOk σ q w x
 unfolding waitOk
-returns c = simp (said-no (c .before .is-only-below .ensures) (c .if1 .taken))
+set-refused σ q w x e = simp e
+
+returns : tie.Need-returns
+returns c = set-refused _ _ _ _ (said-no (c .before .is-only-below .ensures) (c .if1 .taken))
 
 set-size-requires : tie.Need-set-size-requires
 set-size-requires c κs = search needs

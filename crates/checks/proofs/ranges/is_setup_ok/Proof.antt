@@ -1,16 +1,23 @@
 -- n is tested, then m.
+use mathlib.Core.Bool.{false}
+use mathlib.Core.Path.{_≡_}
 use borrow.Author.Needs.{needs}
+use Rattle.parts.specs.declared.Setup.{Setup}
 use Rattle.parts.proofs.FiniteLaws.{said-no, said-yes}
-use Rattle.checks.specs.Clauses.{setupOk}
+use Rattle.checks.specs.Clauses.{nodesAllowed, setupOk}
 use Rattle.checks.proofs.ranges.is_setup_ok.Statement.{statement}
 use Rattle.checks.proofs.ranges.is_setup_ok.Tie as tie
 
 is-node-count-requires : tie.Need-is-node-count-requires
 is-node-count-requires c κs = search needs
 
-returns : tie.Need-returns
+-- n alone is enough for a no
+n-refused : (σ : Setup) → nodesAllowed (σ .n) ≡ false → false ≡ setupOk σ
 unfolding setupOk
-returns c = simp (said-no (c .before .is-node-count .ensures) (c .if1 .taken))
+n-refused σ e = simp e
+
+returns : tie.Need-returns
+returns c = n-refused _ (said-no (c .before .is-node-count .ensures) (c .if1 .taken))
 
 is-console-count-requires : tie.Need-is-console-count-requires
 is-console-count-requires c κs = search needs

@@ -1,4 +1,6 @@
 -- The first board is that of one node and one console.
+use mathlib.Core.Path.{ap, _∙_}
+use Rattle.board.specs.declared.Answer.{Answer}
 use Rattle.schedule.specs.Chunks.{startRack}
 use Rattle.schedule.proofs.ChunksLaws.{first-board}
 use borrow.Author.Needs.{needs}
@@ -10,7 +12,7 @@ fresh-requires c κs = search needs
 
 returns : tie.Need-returns
 unfolding startRack
-returns c = rw (c .before .fresh .ensures, first-board)
+returns c = rw (ap (λ (a : Answer). a .board) (c .before .fresh .ensures) ∙ first-board)
 
 pub start-spec : {M : Type 1} → statement M
 start-spec = tie.close (tie.spec fresh-requires returns)

@@ -99,7 +99,7 @@ returns-2 c =
     let text = after-lf-text s chunk i e few inside (found .find .ensures .0) more ∙ sym (ap (λ (l : List ℕ). effectOf (s .board) (s .number) l .text) line) in (
       (omega arith, omega arith, omega arith, ran .run-line .ensures .0),
       record {
-        session = rw (ran .run-line .ensures .1, c .next-number .ensures, line) (sym (after-lf s chunk i e few inside (found .find .ensures .0) more));
+        session = simp (ran .run-line .ensures .1, c .next-number .ensures, line) (sym (after-lf s chunk i e few inside (found .find .ensures .0) more));
         written = rw text (ran .run-line .ensures .3);
         wrote = rw text (ran .run-line .ensures .2);
         room = omega (arith, ran .run-line .ensures .0);
