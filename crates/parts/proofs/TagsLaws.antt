@@ -1,9 +1,39 @@
--- Laws of how one tag compares with another.
-use mathlib.Core.Path.{_≡_, refl}
-use mathlib.Core.Bool.{Bool, true, false, cond}
+-- Laws of the order of tags by their keys, and of how one tag compares with another.
+use Prim.Native.Nat.{_<_, _≤_}
+use mathlib.Core.Path.{_≡_, refl, sym}
+use mathlib.Core.Bool.{Bool, true, false, cond, _&&_, _||_}
+use native.Mathlib.Omega.{arith}
+use borrow.Author.Tests.{ltb-true, ltb-false, eqb-true, eqb-false, lt-ltb, le-ltb}
+use lib.Dec.{ltb, eqb}
 use Rattle.parts.specs.declared.Tag.{Tag}
 use Rattle.parts.specs.declared.Compared.the-variants.{Lower, Same, Higher}
-use Rattle.parts.specs.Tags.{greater, compared, isHigher, isSame}
+use Rattle.parts.specs.Limits.{maxConsoles, maxTs}
+use Rattle.parts.specs.Tags.{zeroTag, greater, key, compared, isHigher, isSame}
+
+-- a tag whose key can be compared
+pub record Small (t : Tag) : Type 0 where
+  pub console-8 : t .console < maxConsoles
+
+-- of two such tags a is greater than b exactly if its key is
+pub greater-key : (a b : Tag) → Small a → Small b → greater a b ≡ ltb (key b) (key a)
+unfolding greater
+greater-key a b ha hb = go (ltb (b .ts) (a .ts)) refl (eqb (a .ts) (b .ts)) refl (ltb (b .console) (a .console)) refl
+  where
+    lt : key b < key a → true ≡ ltb (key b) (key a)
+    lt h = sym (lt-ltb (key b) (key a) h)
+
+    ge : key a ≤ key b → false ≡ ltb (key b) (key a)
+    ge h = sym (le-ltb (key b) (key a) h)
+
+    go : (x : Bool) → ltb (b .ts) (a .ts) ≡ x → (y : Bool) → eqb (a .ts) (b .ts) ≡ y → (z : Bool) → ltb (b .console) (a .console) ≡ z → (x || y && z) ≡ ltb (key b) (key a)
+    go true e y f z g = lt (omega (arith, ltb-true, ha .console-8, hb .console-8))
+    go false e false f z g = ge (omega (arith, ltb-false, eqb-false (a .ts) (b .ts) f, ha .console-8, hb .console-8))
+    go false e true f true g = lt (omega (arith, eqb-true, ltb-true))
+    go false e true f false g = ge (omega (arith, eqb-true, ltb-false))
+
+-- the keys of (0, 0), of (1, 1) and of the highest tag
+pub key-values : (key zeroTag ≡ 0) × (key (record { ts = 1; console = 1 }) ≡ 9) × (key (record { ts = maxTs; console = 7 }) ≡ 32000000007)
+key-values = (refl, refl, refl)
 
 -- a tag that compares higher is the greater one
 pub higher-greater : (t b : Tag) → isHigher (compared t b) ≡ greater t b

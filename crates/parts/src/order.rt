@@ -1,24 +1,25 @@
-// The order of tags, and how one compares with another.
+// The order of tags by one number for each, and how one compares with another.
 ghost use mathlib.Core.Path.{_≡_};
 ghost use Prim.Native.Nat.{_<_};
 ghost use Rattle.parts.specs.Limits.{maxConsoles};
-ghost use Rattle.parts.specs.Tags.{greater, compared, isHigher, isSame};
+ghost use Rattle.parts.specs.Tags.{greater, key, compared, isHigher, isSame};
 use crate::Compared;
 use crate::Tag;
 
 impl Tag {
+    // One number for the tag (document 02, Paper 5). In 64 bits there is room for every timestamp and console number.
+    fn key(self) -> u64
+        ensures { λ r. ⌜ r ≡ key self ⌝ }
+    {
+        self.ts as u64 * 8 + self.console as u64
+    }
+
     // Whether this tag is greater than b. Document 01 compares tags only where both console numbers are below 8;
     // elsewhere the result is left open.
     pub fn is_greater(self, b: Tag) -> bool
         ensures { λ r. ⌜ (self .console < maxConsoles → b .console < maxConsoles → r ≡ greater self b) ⌝ }
     {
-        if self.ts > b.ts {
-            return true;
-        }
-        if self.ts != b.ts {
-            return false;
-        }
-        self.console > b.console
+        self.key() > b.key()
     }
 
     // How this tag compares with the tag best, where both console numbers are below 8.
