@@ -60,7 +60,13 @@ pub const RELEASE_LOST: Fault = 49;
 pub const LIST_KEEPS_RELEASE: Fault = 50;
 pub const THREE_IS_TWO: Fault = 51;
 pub const LINES_UNDER_TWO: Fault = 52;
-pub const LAST: Fault = LINES_UNDER_TWO;
+
+// Of Paper 5: wrong numbers by which the tag of a put or of a reply is compared.
+pub const PUT_IN_32_BITS: Fault = 53;
+pub const PUT_TIMES_4: Fault = 54;
+pub const REPLY_IN_32_BITS: Fault = 55;
+pub const REPLY_TIMES_4: Fault = 56;
+pub const LAST: Fault = REPLY_TIMES_4;
 
 /// Whether the fault is to be found by schedules; the others are by steps of the library.
 pub fn is_of_lines(fault: Fault) -> bool {

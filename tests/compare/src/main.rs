@@ -19,7 +19,7 @@ mod schedules;
 mod words;
 
 use chance::Chance;
-use faults::Fault;
+use faults::{Fault, PUT_IN_32_BITS, REPLY_IN_32_BITS};
 use hatukeno::{Board, Refusal, BOARD_WORDS};
 use marks::Marks;
 use model::{Answer, Compared, Model, Outcome, Release, Step, RELEASES};
@@ -33,6 +33,8 @@ use words::Words;
 /// The steps of a run.
 const LENGTH: u32 = 500;
 const MAX_TS: u32 = 4_000_000_000;
+/// At each multiple of this timestamp ts × 8 would wrap to 0, if it were worked in 32 bits.
+const WRAPS_AT: u32 = 1 << 29;
 
 /// What the library answers.
 type Said = Result<hatukeno::Answer, Refusal>;
@@ -184,21 +186,23 @@ fn listed_after_fresh(n: u32, m: u32, list: &[hatukeno::Step], ran: &[Ran; 2], f
     }
 }
 
-/// What runs beside the last timestamp show: deliveries refused with 10, and early finishes with the last timestamp, of which
-/// question 10 is not asked.
+/// What runs from late timestamps show: deliveries refused with 10, early finishes with the last timestamp, of which question 10
+/// is not asked, and deliveries of a put and of a reply that would go otherwise by a number of 32 bits (Paper 5).
 #[derive(Default)]
 struct Late {
     refused: u64,
     early: u64,
+    puts_wrapped: u64,
+    replies_wrapped: u64,
 }
 
 impl Late {
-    /// A run from a board whose nodes hold tags beside the last timestamp, one by one and as a list. Demand 3 does not speak of
-    /// such a run.
-    fn run(&mut self, n: u32, m: u32, release: Release, chance: &mut Chance, fault: Fault) {
+    /// A run from a board whose nodes hold tags with one of the three timestamps up to the highest, one by one and as a list.
+    /// Demand 3 does not speak of such a run.
+    fn run(&mut self, n: u32, m: u32, release: Release, highest: u32, chance: &mut Chance, fault: Fault) {
         let (_, mut model) = made(n, m, release);
         for node in model.nodes.values_mut().take(n as usize) {
-            node.tag = (u64::from(MAX_TS - chance.below(3)), u64::from(chance.below(m)));
+            node.tag = (u64::from(highest - chance.below(3)), u64::from(chance.below(m)));
             node.value = chance.value();
         }
         let first = Board::from_words(words::write(&model));
@@ -206,6 +210,9 @@ impl Late {
         let (mut list, mut answers) = (Vec::new(), Vec::new());
         for _ in 0..LENGTH {
             let step = chance.step(n, m, false);
+            let goes_otherwise = |by: Fault| u64::from(model.step(step, by) != model.step(step, 0));
+            self.puts_wrapped += goes_otherwise(PUT_IN_32_BITS);
+            self.replies_wrapped += goes_otherwise(REPLY_IN_32_BITS);
             answers.push(both(&mut board, &mut model, step, fault));
             list.push(in_list(step));
         }
@@ -484,6 +491,10 @@ impl Seen {
             "and runs beside the last timestamp, {} of their deliveries refused with 10, {} early finishes with the last timestamp",
             self.late.refused, self.late.early
         );
+        println!(
+            "and runs beside the timestamps at which ts × 8 would wrap to 0 in 32 bits, {} puts and {} replies of which would then go otherwise",
+            self.late.puts_wrapped, self.late.replies_wrapped
+        );
         self.marks.print();
         self.releases.print();
         print_node_ups(&self.counts);
@@ -501,6 +512,8 @@ impl Seen {
             "the mark"
         } else if self.late.refused == 0 || self.late.early == 0 {
             "the last timestamp"
+        } else if self.late.puts_wrapped == 0 || self.late.replies_wrapped == 0 {
+            "tags whose number does not fit 32 bits"
         } else {
             return;
         };
@@ -533,9 +546,17 @@ fn library(steps: u64, boards: u64, seed: u64, fault: Fault) {
         }
         crashes = !crashes;
     }
+    // Drawn apart, so that what is drawn after them is the same as without them.
+    let mut apart = Chance(!seed);
     for (n, m) in sizes() {
         for release in RELEASES {
-            seen.late.run(n, m, release, &mut chance, fault);
+            let wraps = (1 + apart.below(7)) * WRAPS_AT;
+            seen.late.run(n, m, release, wraps + 1, &mut apart, fault);
+        }
+    }
+    for (n, m) in sizes() {
+        for release in RELEASES {
+            seen.late.run(n, m, release, MAX_TS, &mut chance, fault);
         }
         seen.marks.draw(n, m, &mut chance, fault);
         seen.releases.draw(n, m, &mut chance, fault);

@@ -8,6 +8,15 @@ pub const MAX_TS: u64 = 4_000_000_000;
 /// A tag: ts, then console number; so the order of tuples is the order of tags.
 pub type Tag = (u64, u64);
 
+/// Wrong numbers for a tag, by which only faults compare.
+fn in_32_bits((ts, console): Tag) -> u32 {
+    (ts * 8 + console) as u32
+}
+
+fn times_4((ts, console): Tag) -> u64 {
+    ts * 4 + console
+}
+
 #[derive(Clone, Copy, Debug, PartialEq, Eq)]
 pub enum Frame {
     Ask,
@@ -98,7 +107,7 @@ pub enum Compared {
 }
 
 impl Compared {
-    fn of(tag: Tag, best: Tag) -> Compared {
+    fn of<T: Ord>(tag: T, best: T) -> Compared {
         match tag.cmp(&best) {
             Ordering::Less => Compared::Lower,
             Ordering::Equal => Compared::Same,
@@ -155,7 +164,11 @@ impl Console {
 
     /// The node answers with this tag and value. The first answer sets the mark, a later one whose tag differs clears it.
     fn take_reply(&mut self, k: u32, tag: Tag, value: u32, fault: Fault) -> Compared {
-        let compared = Compared::of(tag, self.best);
+        let compared = match fault {
+            REPLY_IN_32_BITS => Compared::of(in_32_bits(tag), in_32_bits(self.best)),
+            REPLY_TIMES_4 => Compared::of(times_4(tag), times_4(self.best)),
+            _ => Compared::of(tag, self.best),
+        };
         let kept_by = |it| it == Compared::Same || (fault == MARK_KEPT_BY_LOWER && it == Compared::Lower);
         if self.answered.is_empty() || fault == MARK_BY_ANY {
             self.alike = true;
@@ -163,7 +176,7 @@ impl Console {
             self.alike = false;
         }
         self.answered.insert(k);
-        if tag > self.best {
+        if compared == Compared::Higher {
             self.best = tag;
             self.value = value;
         }
@@ -370,6 +383,8 @@ impl Model {
                 let greater = match fault {
                     TS_ONLY => tag.0 > node.tag.0,
                     EQUAL_TAKEN => tag >= node.tag,
+                    PUT_IN_32_BITS => in_32_bits(tag) > in_32_bits(node.tag),
+                    PUT_TIMES_4 => times_4(tag) > times_4(node.tag),
                     _ => tag > node.tag,
                 };
                 if greater {
