@@ -1,5 +1,5 @@
-//! Times the proved library beside plain Rust, which asks question 1 at every step or never, on the same steps; then the program
-//! that runs schedules beside plain Rust and the model, on the same schedule.
+//! Times the proved library beside plain Rust, which asks question 1 at every step or never, and beside itself with tags compared as
+//! before Paper 5, on the same steps; then the program that runs schedules beside plain Rust and the model, on the same schedule.
 //!
 //!     bench [--seed S] [--rounds N] [--lines N] [--rack PROGRAM]
 //!     bench --as-plain <SCHEDULE
@@ -7,11 +7,14 @@
 //!
 //! With --rounds 0 no steps are timed, with --lines 0 no schedule. The other two write plain Rust's answers to the schedule.
 mod lines;
+mod loaded;
 mod plain;
 mod plain_lines;
+mod tags;
 
 use hatukeno::{Board, Compared, Outcome, Refusal, Release, BOARD_WORDS};
 use lines::Programs;
+use loaded::{Again, Before, Now};
 use plain::{CELL, CELLS, CONSOLE, CONSOLES, NODE, NODES};
 use std::hint::black_box;
 use std::mem::size_of;
@@ -45,18 +48,23 @@ enum Step {
     NodeUp(u32),
 }
 
-/// What is timed: a board in one of its three forms.
+/// What is timed: a board in one of its forms.
 trait Side: Clone {
+    /// What a step answers.
+    type Said: PartialEq;
+
     fn made(n: u32, m: u32) -> Result<Self, Refusal>;
     fn of(words: &Words) -> Self;
     fn in_words(&self) -> Words;
-    fn step(&mut self, step: Step) -> Answer;
+    fn step(&mut self, step: Step) -> Self::Said;
 }
 
-/// The three forms have the same functions, but no trait of their own.
+/// Three of the forms have the same functions, but no trait of their own.
 macro_rules! side {
     ($board:ty, $of:expr, $words:expr) => {
         impl Side for $board {
+            type Said = Answer;
+
             fn made(n: u32, m: u32) -> Result<Self, Refusal> {
                 <$board>::fresh(n, m)
             }
@@ -168,7 +176,7 @@ fn is_up(w: &Words, k: u32) -> bool {
 }
 
 /// Stops unless this kind of plain Rust answers as the library did, and has the same words after the step.
-fn agree<B: Side>(words: &Words, step: Step, library: (Answer, Words)) {
+fn agree<B: Side<Said = Answer>>(words: &Words, step: Step, library: (Answer, Words)) {
     let mut plain = B::of(words);
     let expected = (plain.step(step), plain.in_words());
     if library != expected {
@@ -190,6 +198,11 @@ fn both(words: &mut Words, step: Step) -> Answer {
     let mut library = Board::of(words);
     let answer = library.step(step);
     let next = library.in_words();
+    let (mut now, mut before) = (Now::of(words), Before::of(words));
+    if now.step(step) != before.step(step) || now.in_words() != next || before.in_words() != next {
+        println!("a difference at {step:?} on {words:?} between the library and itself with tags compared as before");
+        exit(1);
+    }
     agree::<Plain>(words, step, (answer, next));
     if answer != Err(Refusal(1)) {
         agree::<Unasked>(words, step, (answer, next));
@@ -249,11 +262,24 @@ fn goes_on(w: &Words) -> bool {
     w[CONSOLES..CELLS].chunks(CONSOLE).take(w[1] as usize).any(|x| x[0] != 5)
 }
 
+/// The fresh board of the loaded libraries, as it is and as before.
+fn made_by_loaded(n: u32, m: u32) -> [Words; 2] {
+    let now = Now::made(n, m).expect("an allowed size");
+    let before = Before::made(n, m).expect("an allowed size");
+    [now.in_words(), before.in_words()]
+}
+
 /// One run by chance on a size by chance under the release, its steps sorted into the rows.
 fn made_run(release: Release, chance: &mut Chance, rows: &mut [Row]) -> Run {
     let (n, m) = (1 + chance.below(5), 1 + chance.below(8));
     let mut words = Board::fresh_under(n, m, release).expect("an allowed size").in_words();
-    if words != Plain::fresh_under(n, m, release).expect("an allowed size").in_words() {
+    let plain = Plain::fresh_under(n, m, release).expect("an allowed size").in_words();
+    // The loaded libraries make release 1.
+    let loaded = match release {
+        Release::One => made_by_loaded(n, m),
+        Release::Two => [words; 2],
+    };
+    if plain != words || loaded != [words; 2] {
         println!("a difference at fresh {n} {m} under {release:?}");
         exit(1);
     }
@@ -442,6 +468,49 @@ fn print_row(name: &str, [library, plain, unasked]: [f64; 3]) {
     println!("| {name} | {library:.0} | {plain:.0} | {unasked:.1} | {a:.2} | {b:.1} |");
 }
 
+/// The library beside itself with tags compared as before Paper 5, and beside the same once more, whose ratio says how much of the
+/// other is chance: for each kind of step, and for whole runs.
+fn time_before(rows: &[Row], runs: &[Run], rounds: usize) {
+    println!();
+    println!("| ns per step | tags by number | by order, as before | by number / by order | by number / the same once more |");
+    println!("|---|---:|---:|---:|---:|");
+    let print = |name, [now, again, before]: [f64; 3]| {
+        println!("| {name} | {now:.1} | {before:.1} | {:.3} | {:.3} |", now / before, now / again);
+    };
+    print("fresh", medians(rounds, [&fresh::<Now>, &fresh::<Again>, &fresh::<Before>]));
+    for Row { name, pairs, .. } in rows {
+        let sides: [&dyn Fn() -> f64; 3] = [&|| each::<Now>(pairs), &|| each::<Again>(pairs), &|| each::<Before>(pairs)];
+        print(name, medians(rounds, sides));
+    }
+    let sides: [&dyn Fn() -> f64; 3] = [&|| whole::<Now>(runs), &|| whole::<Again>(runs), &|| whole::<Before>(runs)];
+    print("whole runs", medians(rounds, sides));
+}
+
+/// What comparing tags takes of a delivery, by the two comparisons in plain Rust; the deliveries are timed again, in turn with it.
+fn time_tags(deliveries: &[(Words, Step)], rounds: usize) {
+    let pairs: Vec<_> = deliveries.iter().filter_map(|(words, step)| tags::pair(words, *step)).collect();
+    let sides: [&dyn Fn() -> f64; 4] = [
+        &|| tags::time(&pairs, tags::by_number),
+        &|| tags::time(&pairs, tags::by_order),
+        &|| each::<Now>(deliveries),
+        &|| each::<Before>(deliveries),
+    ];
+    let [by_number, by_order, now, before] = medians(rounds, sides);
+    println!();
+    println!(
+        "{} of {} deliveries compare tags; comparing is timed in plain Rust, with a call for each",
+        pairs.len(),
+        deliveries.len()
+    );
+    println!();
+    println!("| ns per delivery | comparing | the delivery | share |");
+    println!("|---|---:|---:|---:|");
+    for (name, comparing, delivery) in [("tags by number", by_number, now), ("by order, as before", by_order, before)] {
+        let comparing = comparing / deliveries.len() as f64;
+        println!("| {name} | {comparing:.2} | {delivery:.1} | {:.2}% |", 100.0 * comparing / delivery);
+    }
+}
+
 /// Times single steps and whole runs through the library.
 fn time_steps(seed: u64, rounds: usize) {
     let mut chance = Chance(seed);
@@ -495,6 +564,9 @@ fn time_steps(seed: u64, rounds: usize) {
         let (per_second, a, b) = (1e9 / time, time / times[1], time / times[2]);
         println!("| {name} | {time:.1} | {per_second:.0} | {a:.2} | {b:.1} |");
     }
+    time_before(&rows, &runs, rounds);
+    let deliveries = rows.iter().find(|row| row.name == "deliver").expect("the row of all deliveries");
+    time_tags(&deliveries.pairs, rounds);
     println!();
     println!("bytes of a board: library {}, plain {}", size_of::<Board>(), size_of::<Plain>());
     println!(
