@@ -1,12 +1,11 @@
 -- Laws of the order of tags by their keys, and of how one tag compares with another.
 use Prim.Native.Nat.{_<_, _≤_}
 use mathlib.Core.Path.{_≡_, refl, sym}
-use mathlib.Core.Bool.{Bool, true, false, cond, _&&_, _||_}
+use mathlib.Core.Bool.{Bool, true, false, _&&_, _||_}
 use native.Mathlib.Omega.{arith}
 use borrow.Author.Tests.{ltb-true, ltb-false, eqb-true, eqb-false, lt-ltb, le-ltb}
 use lib.Dec.{ltb, eqb}
 use Rattle.parts.specs.declared.Tag.{Tag}
-use Rattle.parts.specs.declared.Compared.the-variants.{Lower, Same, Higher}
 use Rattle.parts.specs.Limits.{maxConsoles, maxTs}
 use Rattle.parts.specs.Tags.{zeroTag, greater, key, compared, isHigher, isSame}
 
@@ -38,19 +37,19 @@ key-values = (refl, refl, refl)
 -- a tag that compares higher is the greater one
 pub higher-greater : (t b : Tag) → isHigher (compared t b) ≡ greater t b
 unfolding compared
-higher-greater t b = go (greater t b) (greater b t)
+higher-greater t b = go (greater t b) refl (greater b t) refl
   where
-    go : (x y : Bool) → isHigher (cond x Higher (cond y Lower Same)) ≡ x
-    go true y = refl
-    go false true = refl
-    go false false = refl
+    go : (x : Bool) → greater t b ≡ x → (y : Bool) → greater b t ≡ y → isHigher (compared t b) ≡ x
+    go true e y f = rw e
+    go false e true f = rw (e, f)
+    go false e false f = rw (e, f)
 
 -- of two tags that compare the same neither is greater
 pub same-neither : (t b : Tag) → isSame (compared t b) ≡ true → (greater t b ≡ false) × (greater b t ≡ false)
 unfolding compared
-same-neither t b = go (greater t b) (greater b t)
+same-neither t b h = go (greater t b) refl (greater b t) refl
   where
-    go : (x y : Bool) → isSame (cond x Higher (cond y Lower Same)) ≡ true → (x ≡ false) × (y ≡ false)
-    go true y e = (cc, cc)
-    go false true e = (refl, cc)
-    go false false e = (refl, refl)
+    go : (x : Bool) → greater t b ≡ x → (y : Bool) → greater b t ≡ y → (x ≡ false) × (y ≡ false)
+    go true e y f = let z : _≡_ {A = Bool} false true = rw e at h in (cc, cc)
+    go false e true f = let z : _≡_ {A = Bool} false true = rw (e, f) at h in (refl, cc)
+    go false e false f = (refl, refl)
