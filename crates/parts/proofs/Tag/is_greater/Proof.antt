@@ -17,7 +17,7 @@ key-requires c κs = search needs
 key-requires-2 : tie.Need-key-requires-2
 key-requires-2 c κs = search needs
 
--- a test that says whether m is less than n
+-- a test that is true only where m is less than n, and false only where it is not, is `ltb`
 says-less : (m n : ℕ) (r : Bool) → (r ≡ true → m < n) → (r ≡ false → n ≤ m) → r ≡ ltb m n
 says-less m n true less more = sym (lt-ltb m n (less refl))
 says-less m n false less more = sym (le-ltb m n (more refl))
