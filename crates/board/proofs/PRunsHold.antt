@@ -1,5 +1,5 @@
 -- P1 to P10 as one theorem, by computation: what each run of the list shows is what it must show. Then the same of the runs of
--- node up, of those that say how replies compare, and of those under release 2.
+-- node up, of those that say how replies compare, of those under release 2, and of those with a down console.
 use mathlib.Core.List.{List, map}
 use mathlib.Core.Path.{_≡_, refl}
 use Rattle.parts.specs.Finite.{every, count}
@@ -19,6 +19,7 @@ use Rattle.board.specs.PRuns.{PRun, Seen, seen, after, allSeen, shows, m
 use Rattle.board.specs.UpRuns.{upRuns}
 use Rattle.board.specs.CompareRuns.{CompareRun, Told, allTold, says, mustSay, written, lower, higher, compareRuns}
 use Rattle.board.specs.QuietRuns.{quietRuns, quietReplies}
+use Rattle.board.specs.DeadRuns.{deadRuns}
 
 -- what runs show, with every definition opened
 opened : List PRun → List CompareRun → List (List Seen) × List (List Told)
@@ -44,3 +45,7 @@ quiet-runs-hold = refl
 pub quiet-replies-hold : map says quietReplies ≡ map mustSay quietReplies
 unfolding opened quietReplies written lower higher
 quiet-replies-hold = refl
+
+pub dead-runs-hold : map shows deadRuns ≡ map mustShow deadRuns
+unfolding opened deadRuns
+dead-runs-hold = refl

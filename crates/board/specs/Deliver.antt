@@ -1,5 +1,6 @@
 -- Deliver (document 01, 'The steps'): one definition for each kind of frame. Of its answers only that to a reply which is taken
--- in says how the tag compared (document 02, Paper 3), and such a reply may finish a read early (Paper 4).
+-- in says how the tag compared (document 02, Paper 3), and such a reply may finish a read early (Paper 4). Before that an ask or a
+-- put of a down console is withdrawn (Paper 6).
 use Prim.Native.Nat.{ℕ}
 use mathlib.Core.Bool.{Bool, cond, not, _&&_}
 use mathlib.Core.List.{[], _∷_}
@@ -14,7 +15,7 @@ use Rattle.parts.specs.declared.Compared.{Compared}
 use Rattle.parts.specs.declared.Compared.the-variants.{None}
 use Rattle.parts.specs.AnsweredSet.{size}
 use Rattle.parts.specs.Sizes.{askSize, tellSize}
-use Rattle.parts.specs.Parts.{isAsking, isTelling, isTwo, writes}
+use Rattle.parts.specs.Parts.{goesToNode, isAsking, isTelling, isTwo, isUp, writes}
 use Rattle.changes.specs.declared.TakenIn.{TakenIn}
 use Rattle.changes.specs.Changes.{taken, rests, awaits, takesIn, tells, acked}
 use Rattle.board.specs.declared.Board.{Board}
@@ -36,7 +37,7 @@ onAsk b c k = toNode b k (answer Handed (withFrame b c k (Reply (nodeAt b k .tag
 unfoldable pub onPut : Board → ℕ → ℕ → Tag → ℕ → Answer
 onPut b c k t v = toNode b k (answer Handed (withNode (withFrame b c k Ack) k (taken (nodeAt b k) t v)))
 
--- 'Any other reply or ack .. : the cell empties and nothing else changes. Outcome: discarded'
+-- 'Any other reply or ack .. : the cell empties and nothing else changes. Outcome: discarded'; the same of a frame that is withdrawn
 unfoldable pub discards : Board → ℕ → ℕ → Answer
 discards b c k = answer Discarded (withFrame b c k Nothing)
 
@@ -89,7 +90,7 @@ onAck b c k =
     (acknowledged b c k (acked (consoleAt b c) k))
     (discards b c k)
 
--- by the frame in the cell; an empty cell does not come here, since question 8 refuses it
+-- by the frame in the cell; an empty cell does not come here, since question 8 refuses it, nor a frame that is withdrawn
 unfoldable pub onFrame : Board → ℕ → ℕ → Frame → Answer
 onFrame b c k Nothing = discards b c k
 onFrame b c k Ask = onAsk b c k
@@ -97,10 +98,16 @@ onFrame b c k (Reply t v) = onReply b c k t v
 onFrame b c k (Put t v) = onPut b c k t v
 onFrame b c k Ack = onAck b c k
 
--- 'Deliver (console, node) takes the frame in that cell'
+-- 'an ask or a put of a down console' (document 02, Paper 6); f is the frame in one of console c's cells
+abbrev pub isWithdrawn : Board → ℕ → Frame → Bool
+isWithdrawn b c f = goesToNode f && not (isUp (consoleAt b c .state))
+
+-- 'Deliver (console, node) takes the frame in that cell'; delivering one that is withdrawn 'empties the cell, outcome discarded. It is
+-- decided after question 8 and before question 9'
 unfoldable pub deliver : Board → ℕ → ℕ → Answer
 deliver b c k =
     guarded
     (is-well-formed b ∷ has-console b c ∷ has-node b k ∷ holds-frame b c k ∷ [])
     b
-    (onFrame b c k (frameAt b c k))
+    (cond (isWithdrawn b c (frameAt b c k)) (discards b c k)
+    (onFrame b c k (frameAt b c k)))

@@ -110,6 +110,9 @@ turned = Said 4 0 zeroTag 0
 abbrev pub finished : Tag → ℕ → Seen
 finished t v = Said 5 0 t v
 
+abbrev pub discarded : Seen
+discarded = Said 6 0 zeroTag 0
+
 -- document 01's fresh, which is release 1
 abbrev fresh : ℕ → ℕ → Look
 fresh n m = Make (setupOf n m One)

@@ -8,7 +8,7 @@ use Rattle.parts.specs.declared.Release.the-variants.{One, Two}
 use Rattle.board.specs.Boards.{withFrame, freshBoard}
 use Rattle.board.specs.Steps.{setupOf}
 use Rattle.board.specs.Runs.{BeginRead, BeginWrite}
-use Rattle.board.specs.PRuns.{Make, NodeOf, CellOf, Whole, Seen, Said, Holds, Frames, Is, Line, _gives_, PRun, tag, refused, done, handed, heard, turned, finished, read, deliver, p2-steps, p3-steps, run, blank}
+use Rattle.board.specs.PRuns.{Make, NodeOf, CellOf, Whole, Seen, Holds, Frames, Is, Line, _gives_, PRun, tag, refused, done, handed, heard, turned, finished, discarded, read, deliver, p2-steps, p3-steps, run, blank}
 use Rattle.board.specs.CompareRuns as compare
 use Rattle.board.specs.CompareRuns.{CompareRun, Told, lower, higher}
 
@@ -68,7 +68,7 @@ agreed =
     ∷ CellOf 0 0 gives Frames Nothing
     ∷ CellOf 0 1 gives Frames (Reply (tag 0 0) 0)
     ∷ CellOf 0 2 gives Frames Nothing
-    ∷ deliver 0 1 gives Said 6 0 (tag 0 0) 0
+    ∷ deliver 0 1 gives discarded
     ∷ read 0 gives done
     ∷ []))
 

@@ -1,4 +1,4 @@
-// Deliver: one function for each kind of frame.
+// Deliver: the questions, then one function for each kind of frame.
 ghost use mathlib.Core.Path.{_≡_};
 ghost use mathlib.Core.Bool.{true};
 ghost use Prim.Native.Nat.{_<_, _≤_};
@@ -8,7 +8,7 @@ ghost use Rattle.parts.specs.Limits.{maxNodes, maxConsoles, maxTs};
 ghost use Rattle.parts.specs.Parts.{writes};
 ghost use Rattle.board.specs.Boards.{frameAt};
 ghost use Rattle.board.specs.InRange.{InRange};
-ghost use Rattle.board.specs.Deliver.{onAsk, onPut, discards, heard, finished, finishesEarly, turned, replied, onReply, acknowledged, onAck, onFrame, deliver};
+ghost use Rattle.board.specs.Deliver.{isWithdrawn, onAsk, onPut, discards, heard, finished, finishesEarly, turned, replied, onReply, acknowledged, onAck, onFrame, deliver};
 use crate::Answer;
 use crate::Board;
 use crate::refusals::NO_FRAME;
@@ -54,12 +54,28 @@ impl Board {
         if f.is_nothing() {
             return Answer::refused(NO_FRAME, self);
         }
+        if is_withdrawn(self, c, f) {
+            return discard(self, c, k);
+        }
         deliver_frame(self, c, k, f)
     }
 }
 
+// Whether f, a frame in a cell of console c, goes to the node though the console is down (document 02, Paper 6).
+fn is_withdrawn(b: Board, c: ConsoleId, f: Frame) -> bool
+    requires { ⌜ c .0 < maxConsoles ⌝ }
+    ensures { λ r. ⌜ r ≡ isWithdrawn b (c .0) f ⌝ }
+{
+    if !f.goes_to_node() {
+        return false;
+    }
+    let x = b.console_at(c);
+    let s = x.state;
+    !s.is_up()
+}
+
 // Deliver has found the board well formed and the numbers in range, and read the frame; question 8 has refused an empty
-// cell.
+// cell, and a frame that is withdrawn does not come here.
 fn deliver_frame(b: Board, c: ConsoleId, k: NodeId, f: Frame) -> Answer
     requires { ⌜ InRange b (c .0) (k .0) ⌝ }
     requires { ⌜ f ≡ frameAt b (c .0) (k .0) ⌝ }

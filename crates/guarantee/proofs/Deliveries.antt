@@ -15,11 +15,11 @@ use Rattle.board.specs.Boards.{consoleAt, frameAt}
 use Rattle.board.specs.declared.Answer.{Answer}
 use Rattle.board.specs.declared.Board.{Board}
 use Rattle.guarantee.proofs.Shapes.{m-is, n-is}
-use Rattle.guarantee.proofs.Views.{Delivered, Ranged, ask, drop-ack, drop-reply, finish, finish-early, hear, hear-ack, into, no, out, put, turn}
+use Rattle.guarantee.proofs.Views.{Delivered, Ranged, ask, drop-ack, drop-reply, finish, finish-early, hear, hear-ack, into, no, out, put, turn, withdraw}
 use Rattle.guarantee.proofs.Boards.{BoardOk, TagKind}
 use Rattle.guarantee.proofs.Consoles.{Fair}
 use Rattle.guarantee.proofs.Effects.{Delivery, Effect}
-use Rattle.guarantee.proofs.ToNode.{ask-effect, drop-ack-effect, drop-reply-effect, put-effect}
+use Rattle.guarantee.proofs.ToNode.{ask-effect, drop-ack-effect, drop-reply-effect, put-effect, withdraw-effect}
 use Rattle.guarantee.proofs.Replies.{early-effect, hear-effect, turn-effect, turn-state}
 use Rattle.guarantee.proofs.Acks.{hear-ack-effect, last-ack-effect}
 
@@ -56,6 +56,7 @@ deliver-effect {K} {σ} fair b c k h chosen (into cm kn v) = go v chosen
     go (finish-early {u} {v} e p i l y) _ = effect (d .c-m) (early-effect d u v e p i (asked l) y)
     go (hear-ack e p i l) _ = effect (d .c-m) (hear-ack-effect d e p i l)
     go (finish e p i l) _ = effect (d .c-m) (last-ack-effect d e p i (told l))
+    go (withdraw e) _ = effect (d .c-m) (withdraw-effect d e)
     go (drop-reply e a) _ = effect (d .c-m) (drop-reply-effect d e a)
     go (drop-ack e a) _ = effect (d .c-m) (drop-ack-effect d e a)
 

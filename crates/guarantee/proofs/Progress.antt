@@ -20,7 +20,7 @@ use Rattle.parts.specs.declared.Setup.{Setup}
 use Rattle.parts.specs.declared.Tag.{Tag}
 use Rattle.changes.specs.Changes.{acked, awaits, hears, takesIn}
 use Rattle.board.specs.Boards.{consoleAt, frameAt, nodeAt}
-use Rattle.board.specs.Deliver.{acknowledged, deliver, discards, finished, finishesEarly, heard, onAck, onAsk, onFrame, onPut, onReply, replied, toNode}
+use Rattle.board.specs.Deliver.{acknowledged, deliver, discards, finished, finishesEarly, heard, isWithdrawn, onAck, onAsk, onFrame, onPut, onReply, replied, toNode}
 use Rattle.board.specs.Questions.{has-console, has-next-ts, has-node, holds-frame, is-well-formed, node-is-up}
 use Rattle.board.specs.Runs.{Deliver, step}
 use Rattle.board.specs.declared.Answer.{Answer}
@@ -62,9 +62,10 @@ frame-taken b c k Ack up below = split-but Accepts (isTelling (consoleAt b c .st
     (λ _ _. split Accepts (ltb (size (insert (consoleAt b c .answered) k)) (tellSize (b .setup))) (λ _. refl) (λ _. refl)) (λ _. refl)
 
 deliver-taken : {σ : Setup} (b : Board) (c k : ℕ) → BoardOk (Good σ) σ b → c < σ .m → k < σ .n → isNothing (frameAt b c k) ≡ false → Accepts (onFrame b c k (frameAt b c k)) → Accepts (step b (Deliver c k))
-unfolding deliver step
+unfolding deliver discards step
 deliver-taken b c k h cm kn full t = all-yes Accepts (is-well-formed b ∷ has-console b c ∷ has-node b k ∷ holds-frame b c k ∷ []) b
-    (well-formed b h also lt-ltb c (b .setup .m) (omega (arith, m-is (h .shape))) also lt-ltb k (b .setup .n) (omega (arith, n-is (h .shape))) also (rw full) also none) t
+    (well-formed b h also lt-ltb c (b .setup .m) (omega (arith, m-is (h .shape))) also lt-ltb k (b .setup .n) (omega (arith, n-is (h .shape))) also (rw full) also none)
+    (split Accepts (isWithdrawn b c (frameAt b c k)) (λ _. refl) (λ _. t))
 
 module _ {σ : Setup} (r : Run) (h : Inv σ r) (few : writesBegun r ≤ maxTs) where
   -- a write that still asks is not among those that have turned

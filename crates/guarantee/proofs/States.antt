@@ -5,7 +5,7 @@ use mathlib.Core.Logic.{inl, inr, _⊎_}
 use mathlib.Core.Path.{refl, _≡_}
 use native.Mathlib.Omega.{arith}
 use Rattle.parts.specs.Finite.{_implies_}
-use Rattle.parts.specs.Parts.{isAsking, isIdle, isTelling, isWaiting, toTelling, writes}
+use Rattle.parts.specs.Parts.{isAsking, isIdle, isTelling, isUp, isWaiting, toTelling, writes}
 use Rattle.parts.specs.Sizes.{askSize, tellSize}
 use Rattle.parts.specs.declared.Setup.{Setup}
 use Rattle.parts.specs.declared.State.{State}
@@ -50,6 +50,12 @@ waiting-cases Idle e = inl e
 waiting-cases (Asking w) e = inl refl
 waiting-cases (Telling w) e = inr refl
 waiting-cases Down e = inl e
+
+pub waiting-up : (s : State) → isWaiting s ≡ true → isUp s ≡ true
+waiting-up Idle e = refl
+waiting-up (Asking w) e = refl
+waiting-up (Telling w) e = refl
+waiting-up Down e = e
 
 pub not-both : (s : State) → isAsking s ≡ true → isTelling s ≡ true → ⊥
 not-both Idle e f = contra e refl

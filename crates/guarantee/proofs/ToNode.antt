@@ -1,11 +1,11 @@
--- An ask or a put is delivered to its node, or a frame that no one waits for is thrown away.
+-- An ask or a put is delivered to its node, or a frame is thrown away: one that is withdrawn, or one that its console does not wait for.
 use Prim.Native.Nat.{ℕ, _+_, _≤_, _<_}
-use mathlib.Core.Bool.{true, false}
+use mathlib.Core.Bool.{true, false, not}
 use mathlib.Core.Logic.{inl, inr, _⊎_}
 use mathlib.Core.Path.{refl, ap, _≡_}
 use native.Mathlib.Omega.{arith}
 use Rattle.parts.specs.AnsweredSet.{member}
-use Rattle.parts.specs.Parts.{isAsking, isTelling, isWaiting}
+use Rattle.parts.specs.Parts.{isAsking, isTelling, isUp, isWaiting}
 use Rattle.parts.specs.declared.Frame.{Frame}
 use Rattle.parts.specs.declared.Frame.the-variants.{Ack, Ask, Nothing, Put, Reply}
 use Rattle.parts.specs.declared.Node.{Node}
@@ -18,7 +18,7 @@ use Rattle.board.specs.Answers.{answer}
 use Rattle.board.specs.Boards.{consoleAt, frameAt, nodeAt, withFrame, withNode}
 use Rattle.board.specs.declared.Board.{Board}
 use Rattle.guarantee.proofs.Tags.{key}
-use Rattle.guarantee.proofs.States.{asking-waits, contra, telling-waits, waiting-cases}
+use Rattle.guarantee.proofs.States.{asking-waits, contra, telling-waits, waiting-cases, waiting-up}
 use Rattle.guarantee.proofs.Shapes.{node-same, nodes-with, shape-frame}
 use Rattle.guarantee.proofs.Rows.{AskFrame, TellFrame, ask-not-ack, ask-not-put, ask-replied, frame-floor, frame-row, grow-floor, grow-row, not-reply, put-took, tell-grow, tell-not-ask, tell-not-reply}
 use Rattle.guarantee.proofs.Boards.{Beside, FrameHas, TagKind, beside-frame, beside-node, beside-trans, kept, tags}
@@ -57,11 +57,14 @@ module _ {K : TagKind} {σ : Setup} {b : Board} {c k : ℕ} (d : Delivery K σ b
       (λ p. absurd (tell-not-ask (rw e at (row-of d .telling p k (d .k-n)))))
       (λ w. (unanswered d w (rw e), rw e, refl))
 
-  -- ---- a frame is thrown away: its console is not waiting, for a waiting one takes every reply and ack in its row
+  -- ---- a frame is thrown away: its console is not waiting, for a waiting one is up and takes every reply and ack in its row
 
   drop-effect : (isWaiting (consoleAt b c .state) ≡ true → ⊥) → Effect K σ c b (answer Discarded (withFrame b c k Nothing))
   drop-effect n-w = frame-effect Nothing Discarded refl tt (λ u v q. absurd (not-reply refl q)) (λ p. absurd (n-w (asking-waits (consoleAt b c .state) p)))
       (λ p. absurd (n-w (telling-waits (consoleAt b c .state) p))) (λ w. absurd (n-w w))
+
+  pub withdraw-effect : not (isUp (consoleAt b c .state)) ≡ true → Effect K σ c b (answer Discarded (withFrame b c k Nothing))
+  withdraw-effect e = drop-effect (λ w. contra e (ap not (waiting-up (consoleAt b c .state) w)))
 
   pub drop-reply-effect : {u : Tag} {v : ℕ} → frameAt b c k ≡ Reply u v → (isAsking (consoleAt b c .state) ≡ true → member (consoleAt b c .answered) k ≡ true)
       → Effect K σ c b (answer Discarded (withFrame b c k Nothing))

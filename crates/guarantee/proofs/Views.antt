@@ -1,15 +1,15 @@
 -- What each step's answer can be, with the facts that lead there. Later proofs split on these and never on a step's text.
 use Prim.Native.Nat.{ℕ, _≤_, _<_}
-use mathlib.Core.Bool.{Bool, true, false, not}
+use mathlib.Core.Bool.{Bool, true, false, cond, not}
 use mathlib.Core.List.{List, _∷_, []}
 use mathlib.Core.Path.{refl, _≡_}
 use native.Mathlib.Omega.{arith}
 use borrow.Author.Tests.{ltb-true, ltb-false, le-leb}
 use lib.Dec.{ltb}
-use Rattle.parts.proofs.FiniteLaws.{implied}
+use Rattle.parts.proofs.FiniteLaws.{and-right, implied}
 use Rattle.parts.specs.AnsweredSet.{insert, member, size}
 use Rattle.parts.specs.Limits.{maxTs}
-use Rattle.parts.specs.Parts.{isAsking, isNothing, isTelling, writes}
+use Rattle.parts.specs.Parts.{goesToNode, isAsking, isNothing, isTelling, isUp, writes}
 use Rattle.parts.specs.Sizes.{askSize, tellSize}
 use Rattle.parts.specs.Tags.{compared}
 use Rattle.parts.specs.declared.Compared.the-variants.{None}
@@ -24,7 +24,7 @@ use Rattle.checks.specs.Clauses.{consolesAllowed, nodesAllowed}
 use Rattle.changes.specs.Changes.{acked, awaits, hears, rests, taken, takesIn, withUp}
 use Rattle.board.specs.Answers.{Question, answer, answerWith, guarded, refuse}
 use Rattle.board.specs.Boards.{consoleAt, frameAt, freshBoard, nodeAt, withConsole, withFrame, withNode}
-use Rattle.board.specs.Deliver.{acknowledged, deliver, discards, finished, finishesEarly, heard, onAck, onAsk, onFrame, onPut, onReply, replied, toNode, turned}
+use Rattle.board.specs.Deliver.{acknowledged, deliver, discards, finished, finishesEarly, heard, isWithdrawn, onAck, onAsk, onFrame, onPut, onReply, replied, toNode, turned}
 use Rattle.board.specs.Questions.{console-is-idle, console-is-up, has-allowed-consoles, has-allowed-nodes, has-console, has-next-ts, has-node, holds-frame, is-well-formed, node-is-down, node-is-up}
 use Rattle.board.specs.Steps.{begin, begun, consoleDown, fresh, nodeDown, nodeUp, smallest}
 use Rattle.board.specs.declared.Answer.{Answer}
@@ -73,6 +73,7 @@ pub data Delivered (b : Board) (c k : ℕ) : Answer → Type 0 where
   finish : frameAt b c k ≡ Ack → isTelling (consoleAt b c .state) ≡ true → member (consoleAt b c .answered) k ≡ false
       → tellSize (b .setup) ≤ size (insert (consoleAt b c .answered) k)
       → Delivered b c k (finished None b c k (acked (consoleAt b c) k))
+  withdraw : not (isUp (consoleAt b c .state)) ≡ true → Delivered b c k (answer Discarded (withFrame b c k Nothing))
   drop-reply : {u : Tag} {v : ℕ} → frameAt b c k ≡ Reply u v → (isAsking (consoleAt b c .state) ≡ true → member (consoleAt b c .answered) k ≡ true)
       → Delivered b c k (answer Discarded (withFrame b c k Nothing))
   drop-ack : frameAt b c k ≡ Ack → (isTelling (consoleAt b c .state) ≡ true → member (consoleAt b c .answered) k ≡ true)
@@ -108,11 +109,13 @@ module _ (b : Board) (c k : ℕ) where
       (λ t. drop-ack e t)
 
   pub delivered : Ranged b c k (deliver b c k)
-  unfolding deliver
+  unfolding deliver discards
   delivered = questions (Ranged b c k) _ (λ _. out) yes
     where
-      yes : All Yes (is-well-formed b ∷ has-console b c ∷ has-node b k ∷ holds-frame b c k ∷ []) → Ranged b c k (onFrame b c k (frameAt b c k))
-      yes (_ also cm also kn also n also none) = into (ltb-true c (b .setup .m) cm) (ltb-true k (b .setup .n) kn) (view-frame (frameAt b c k) n refl)
+      yes : All Yes (is-well-formed b ∷ has-console b c ∷ has-node b k ∷ holds-frame b c k ∷ [])
+          → Ranged b c k (cond (isWithdrawn b c (frameAt b c k)) (discards b c k) (onFrame b c k (frameAt b c k)))
+      yes (_ also cm also kn also n also none) = into (ltb-true c (b .setup .m) cm) (ltb-true k (b .setup .n) kn)
+          (split P (isWithdrawn b c (frameAt b c k)) (λ e. withdraw (and-right (goesToNode (frameAt b c k)) _ e)) (λ _. view-frame (frameAt b c k) n refl))
 
 -- ---- the other steps
 

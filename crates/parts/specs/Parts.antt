@@ -46,6 +46,14 @@ isNothing (Reply t v) = false
 isNothing (Put t v) = false
 isNothing Ack = false
 
+-- 'Ask and put go to the node; reply and ack go to the console'
+abbrev pub goesToNode : Frame → Bool
+goesToNode Nothing = false
+goesToNode Ask = true
+goesToNode (Reply t v) = false
+goesToNode (Put t v) = true
+goesToNode Ack = false
+
 -- ---- the cases of a console's state
 
 abbrev pub isIdle : State → Bool

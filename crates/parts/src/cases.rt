@@ -1,6 +1,6 @@
 // The cases of a release, of an operation's kind, of a console's state and of a frame.
 ghost use mathlib.Core.Path.{_≡_};
-ghost use Rattle.parts.specs.Parts.{isNothing, isIdle, isAsking, isTelling, isUp, isWrite, writes, toTelling, isTwo};
+ghost use Rattle.parts.specs.Parts.{isNothing, goesToNode, isIdle, isAsking, isTelling, isUp, isWrite, writes, toTelling, isTwo};
 use crate::Frame;
 use crate::Kind;
 use crate::Release;
@@ -107,6 +107,18 @@ impl Frame {
             Frame::Ask => false,
             Frame::Reply(_, _) => false,
             Frame::Put(_, _) => false,
+            Frame::Ack => false,
+        }
+    }
+    // Whether it goes to the node, as ask and put do, and not to the console.
+    pub fn goes_to_node(self) -> bool
+        ensures { λ r. ⌜ r ≡ goesToNode self ⌝ }
+    {
+        match self {
+            Frame::Nothing => false,
+            Frame::Ask => true,
+            Frame::Reply(_, _) => false,
+            Frame::Put(_, _) => true,
             Frame::Ack => false,
         }
     }

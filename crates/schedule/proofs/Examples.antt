@@ -44,6 +44,8 @@ examples =
     ∷ ("0,2,1\n0,6,1\n4,1,0\n7,9,9\n7,9\n" prints "1,0,1,0,0,0\n2,2,0,0,0,0\n3,0,1,0,0,0\n4,12,0,0,0,0\n5,11,0,0,0,0\n")
     -- an ask waits for a node that is down, and is handed over once it has come back; a second node up and one of no node are refused
     ∷ ("1,0,0\n4,0,0\n3,0,0\n6,0,9\n6,0,9\n6,1,0\n3,0,0\n" prints "1,0,1,0,0,0\n2,0,1,0,0,0\n3,9,0,0,0,0\n4,0,1,0,0,0\n5,14,0,0,0,0\n6,5,0,0,0,0\n7,0,2,0,0,0\n")
+    -- a write has turned when its console goes down: the put is discarded, though the node is down
+    ∷ ("2,0,7\n3,0,0\n3,0,0\n5,0,0\n4,0,0\n3,0,0\n3,0,0\n" prints "1,0,1,0,0,0\n2,0,2,0,0,0\n3,0,4,0,0,0\n4,0,1,0,0,0\n5,0,1,0,0,0\n6,0,6,0,0,0\n7,8,0,0,0,0\n")
     ∷ []
 
 pub schedules-printed : map (λ x. scheduleText (bytes (x .input))) examples ≡ map (λ x. bytes (x .must)) examples
