@@ -146,10 +146,11 @@ impl Chance {
                 Step::BeginWrite(c, self.next() as u32)
             };
         }
-        // A reply or an ack is always taken; an ask or a put only by a node that is up.
+        // A reply or an ack is always taken, and so is every frame of a console that is down; another ask or put only by a node that
+        // is up.
         let goes = |i: &u32| match w[CELLS + CELL * *i as usize] {
             0 => false,
-            1 | 3 => is_up(w, *i % 5),
+            1 | 3 => is_dead(w, *i / 5) || is_up(w, *i % 5),
             _ => true,
         };
         if let Some(i) = self.drawn((0..40).filter(goes)) {
@@ -173,6 +174,11 @@ impl Chance {
 
 fn is_up(w: &Words, k: u32) -> bool {
     w[NODES + NODE * k as usize] != 0
+}
+
+/// Whether the console is down.
+fn is_dead(w: &Words, c: u32) -> bool {
+    w[CONSOLES + CONSOLE * c as usize] == 5
 }
 
 /// Stops unless this kind of plain Rust answers as the library did, and has the same words after the step.
@@ -259,7 +265,7 @@ impl Row {
 
 /// Whether some operation can still finish: a console is up. Nodes come back.
 fn goes_on(w: &Words) -> bool {
-    w[CONSOLES..CELLS].chunks(CONSOLE).take(w[1] as usize).any(|x| x[0] != 5)
+    (0..w[1]).any(|c| !is_dead(w, c))
 }
 
 /// The fresh board of the loaded libraries, as it is and as before.

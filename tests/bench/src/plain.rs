@@ -1,5 +1,5 @@
-//! The rules of document 01 and Papers 2 to 4 in plain Rust, written to be fast: one struct by value, changed in place. With
-//! CHECKED every step asks question 1 first, without it none does; all else is the same code.
+//! The rules of document 01 and Papers 2, 3, 4 and 6 in plain Rust, written to be fast: one struct by value, changed in place.
+//! With CHECKED every step asks question 1 first, without it none does; all else is the same code.
 use hatukeno::{Answer, Compared, Outcome, Refusal, Release, Tag, BOARD_WORDS};
 use std::cmp::Ordering;
 
@@ -166,6 +166,7 @@ impl<const CHECKED: bool> Board<CHECKED> {
         let at = console as usize * MAX_NODES + node as usize;
         match self.cells[at] {
             Cell::Nothing => Err(Refusal(8)),
+            Cell::Ask | Cell::Put(..) if self.consoles[console as usize].state == State::Down => self.discard(at),
             Cell::Ask => {
                 let x = self.nodes[node as usize];
                 if !x.up {

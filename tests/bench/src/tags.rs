@@ -1,7 +1,7 @@
 //! What comparing tags takes of a delivery: by number, as the library does, and by order, as it did before Paper 5. Both stand
 //! here in plain Rust.
 use crate::plain::{CELL, CELLS, CONSOLE, CONSOLES, NODE, NODES};
-use crate::{Step, Words};
+use crate::{is_dead, Step, Words};
 use hatukeno::Tag;
 use std::hint::black_box;
 use std::time::Instant;
@@ -37,7 +37,8 @@ pub struct Pair {
     is_reply: bool,
 }
 
-/// The tags that an accepted step compares: a put's and its node's, or those of a reply that is taken in and of best.
+/// The tags that an accepted step compares: those of a put that is handed on and of its node, or those of a reply that is taken in
+/// and of best.
 pub fn pair(w: &Words, step: Step) -> Option<Pair> {
     let Step::Deliver(c, k) = step else { return None };
     let tag = |at: usize| Tag {
@@ -54,7 +55,7 @@ pub fn pair(w: &Words, step: Step) -> Option<Pair> {
             with: tag(console + 3),
             is_reply: true,
         }),
-        3 => Some(Pair {
+        3 if !is_dead(w, c) => Some(Pair {
             tag: tag(cell + 1),
             with: tag(NODES + NODE * k as usize + 1),
             is_reply: false,

@@ -66,7 +66,18 @@ pub const PUT_IN_32_BITS: Fault = 53;
 pub const PUT_TIMES_4: Fault = 54;
 pub const REPLY_IN_32_BITS: Fault = 55;
 pub const REPLY_TIMES_4: Fault = 56;
-pub const LAST: Fault = REPLY_TIMES_4;
+
+// Of Paper 6: which frames are withdrawn, when, and what else becomes of them and of the board.
+pub const WITHDRAWN_AFTER_9: Fault = 57;
+pub const WITHDRAWN_TAKEN: Fault = 58;
+pub const WITHDRAWN_BY_ROW: Fault = 59;
+pub const WITHDRAWN_OF_IDLE: Fault = 60;
+pub const ASK_NOT_WITHDRAWN: Fault = 61;
+pub const PUT_NOT_WITHDRAWN: Fault = 62;
+pub const WITHDRAWN_HANDED: Fault = 63;
+pub const WITHDRAWN_STAYS: Fault = 64;
+pub const WITHDRAWN_AT_DOWN: Fault = 65;
+pub const LAST: Fault = WITHDRAWN_AT_DOWN;
 
 /// Whether the fault is to be found by schedules; the others are by steps of the library.
 pub fn is_of_lines(fault: Fault) -> bool {

@@ -1,4 +1,4 @@
-//! Runs of which each answer is known: document 01's extras, and those that show what Papers 2 to 4 say.
+//! Runs of which each answer is known: document 01's extras, and those that show what Papers 2, 3, 4 and 6 say.
 use crate::model::{Answer, Compared, Frame, Model, Outcome, Release, Step, Tag, MAX_TS, RELEASES};
 use crate::{both, made, words};
 use hatukeno::Board;
@@ -14,6 +14,8 @@ pub fn runs() {
     not_early();
     other_cells();
     last_ts_read();
+    asks_withdrawn();
+    puts_withdrawn();
 }
 
 /// A board of the library and the model beside it.
@@ -235,4 +237,45 @@ fn last_ts_read() {
     board.expect(Step::BeginWrite(0, 8), Ok(Outcome::Done));
     board.expect(Step::Deliver(0, 0), Ok(Outcome::Handed));
     board.expect(Step::Deliver(0, 0), Err(10));
+}
+
+/// Paper 6. Of the three asks of a console that goes down one was answered, whose reply is discarded as before; the others are
+/// withdrawn, from node 1 that is up and from node 2 that is down.
+fn asks_withdrawn() {
+    let mut board = Known::fresh(3, 2);
+    board.expect(Step::BeginRead(0), Ok(Outcome::Done));
+    board.expect(Step::Deliver(0, 0), Ok(Outcome::Handed));
+    board.expect(Step::NodeDown(2), Ok(Outcome::Done));
+    board.expect(Step::Deliver(0, 2), Err(9));
+    board.expect(Step::ConsoleDown(0), Ok(Outcome::Done));
+    for k in 0..3 {
+        board.expect(Step::Deliver(0, k), Ok(Outcome::Discarded));
+        board.expect(Step::Deliver(0, k), Err(8));
+    }
+}
+
+/// Paper 6. A write has reached node 0 when its console goes down; its puts to nodes 1 and 2 are withdrawn one by one, and change
+/// nothing else. So is that to node 1 where this node is down.
+fn puts_withdrawn() {
+    for node_down in [false, true] {
+        let mut board = Known::fresh(3, 2);
+        board.expect(Step::BeginWrite(1, 7), Ok(Outcome::Done));
+        board.reply(1, 0, Outcome::Heard, Compared::Same, true);
+        board.reply(1, 2, Outcome::Turned, Compared::Same, false);
+        board.expect(Step::Deliver(1, 0), Ok(Outcome::Handed));
+        board.expect(Step::ConsoleDown(1), Ok(Outcome::Done));
+        if node_down {
+            board.expect(Step::NodeDown(1), Ok(Outcome::Done));
+        }
+        let mut expected = board.model.clone();
+        for k in [1, 2] {
+            expected.cells.remove(&(1, k));
+            board.expect(Step::Deliver(1, k), Ok(Outcome::Discarded));
+            if *board.board.words() != words::write(&expected) {
+                println!("after a withdrawn put the board is {:?}", words::read(board.board.words(), 0));
+                exit(1);
+            }
+        }
+        board.expect(Step::Deliver(1, 0), Ok(Outcome::Discarded));
+    }
 }

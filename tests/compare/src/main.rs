@@ -463,6 +463,28 @@ fn shows_replies(counts: &[[Counts; 2]]) -> bool {
     ways.into_iter().all(|way| sum(counts, way) > 0)
 }
 
+fn print_withdrawn(counts: &[[Counts; 2]]) {
+    println!(
+        "{} asks and {} puts of down consoles were withdrawn, {} of them from a node that was down; {} of the puts would have landed, at a node that was up",
+        sum(counts, |t| t.asks_withdrawn),
+        sum(counts, |t| t.puts_withdrawn),
+        sum(counts, |t| t.withdrawn_from_down),
+        sum(counts, |t| t.kept_from_landing)
+    );
+}
+
+/// Whether asks and puts were withdrawn, from nodes that were up and from nodes that were down, and puts that would have landed.
+fn shows_withdrawn(counts: &[[Counts; 2]]) -> bool {
+    let ways: [fn(&Counts) -> u64; 5] = [
+        |t| t.asks_withdrawn,
+        |t| t.puts_withdrawn,
+        |t| t.withdrawn_from_down,
+        |t| t.asks_withdrawn + t.puts_withdrawn - t.withdrawn_from_down,
+        |t| t.kept_from_landing,
+    ];
+    ways.into_iter().all(|way| sum(counts, way) > 0)
+}
+
 /// All that was seen of the library.
 #[derive(Default)]
 struct Seen {
@@ -499,6 +521,7 @@ impl Seen {
         self.releases.print();
         print_node_ups(&self.counts);
         print_replies(&self.counts);
+        print_withdrawn(&self.counts);
         self.reads.print();
     }
 
@@ -508,6 +531,8 @@ impl Seen {
             "node ups"
         } else if self.steps > 0 && !shows_replies(&self.counts) {
             "replies"
+        } else if self.steps > 0 && !shows_withdrawn(&self.counts) {
+            "withdrawn frames"
         } else if !self.marks.shows_all() {
             "the mark"
         } else if self.late.refused == 0 || self.late.early == 0 {

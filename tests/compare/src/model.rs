@@ -1,4 +1,4 @@
-//! The board as document 01 and Papers 2 to 4 say it, in sets and maps. Nothing here is shared with the library.
+//! The board as document 01 and Papers 2, 3, 4 and 6 say it, in sets and maps. Nothing here is shared with the library.
 use crate::faults::*;
 use std::cmp::Ordering;
 use std::collections::{BTreeMap, BTreeSet};
@@ -25,6 +25,13 @@ pub enum Frame {
     Ack,
 }
 
+impl Frame {
+    /// Ask and put go to the node; reply and ack go to the console.
+    pub fn goes_to_node(&self) -> bool {
+        matches!(self, Frame::Ask | Frame::Put(..))
+    }
+}
+
 #[derive(Clone, Copy, Debug, PartialEq, Eq)]
 pub enum Kind {
     Read,
@@ -44,6 +51,23 @@ pub struct Node {
     pub up: bool,
     pub tag: Tag,
     pub value: u32,
+}
+
+impl Node {
+    /// It keeps the greater tag, with its value.
+    fn take_put(&mut self, tag: Tag, value: u32, fault: Fault) {
+        let greater = match fault {
+            TS_ONLY => tag.0 > self.tag.0,
+            EQUAL_TAKEN => tag >= self.tag,
+            PUT_IN_32_BITS => in_32_bits(tag) > in_32_bits(self.tag),
+            PUT_TIMES_4 => times_4(tag) > times_4(self.tag),
+            _ => tag > self.tag,
+        };
+        if greater {
+            self.tag = tag;
+            self.value = value;
+        }
+    }
 }
 
 #[derive(Clone, Debug, PartialEq, Eq)]
@@ -289,6 +313,9 @@ impl Model {
                 }
                 let mut next = self.clone();
                 next.consoles.insert(c, at_rest(State::Down));
+                if fault == WITHDRAWN_AT_DOWN {
+                    next.cells.retain(|(d, _), frame| *d != c || !frame.goes_to_node());
+                }
                 next.after(Outcome::Done)
             }
             Step::NodeUp(k) => self.node_up(k, fault),
@@ -323,8 +350,7 @@ impl Model {
             next.nodes.insert(k, fresh_node());
         }
         if fault == WAITING_LOST {
-            let goes_to_node = |frame: &Frame| matches!(frame, Frame::Ask | Frame::Put(..));
-            next.cells.retain(|(_, j), frame| *j != k || !goes_to_node(frame));
+            next.cells.retain(|(_, j), frame| *j != k || !frame.goes_to_node());
         }
         next.after(Outcome::Done)
     }
@@ -371,6 +397,9 @@ impl Model {
         };
         let mut next = self.clone();
         next.cells.remove(&(c, k));
+        if self.is_withdrawn(c, k, frame, fault) {
+            return next.withdraw(c, k, frame, fault);
+        }
         match frame {
             Frame::Ask | Frame::Put(..) if !self.nodes[&k].up => self.refused(9),
             Frame::Ask => {
@@ -379,24 +408,40 @@ impl Model {
                 next.after(Outcome::Handed)
             }
             Frame::Put(tag, value) => {
-                let node = next.nodes.get_mut(&k).unwrap();
-                let greater = match fault {
-                    TS_ONLY => tag.0 > node.tag.0,
-                    EQUAL_TAKEN => tag >= node.tag,
-                    PUT_IN_32_BITS => in_32_bits(tag) > in_32_bits(node.tag),
-                    PUT_TIMES_4 => times_4(tag) > times_4(node.tag),
-                    _ => tag > node.tag,
-                };
-                if greater {
-                    node.tag = tag;
-                    node.value = value;
-                }
+                next.nodes.get_mut(&k).unwrap().take_put(tag, value, fault);
                 next.cells.insert((c, k), Frame::Ack);
                 next.after(Outcome::Handed)
             }
             Frame::Reply(tag, value) => self.hear_reply(next, c, k, (tag, value), fault),
             Frame::Ack => next.hear_ack(c, k, fault),
         }
+    }
+
+    /// Paper 6: whether this frame is an ask or a put of a down console. Whether the node is up is not asked.
+    fn is_withdrawn(&self, c: u32, k: u32, frame: Frame, fault: Fault) -> bool {
+        let of_kind = match frame {
+            Frame::Ask => fault != ASK_NOT_WITHDRAWN,
+            Frame::Put(..) => fault != PUT_NOT_WITHDRAWN,
+            Frame::Reply(..) | Frame::Ack => false,
+        };
+        let of_state = match self.consoles[&c].state {
+            State::Down => true,
+            State::Idle => fault == WITHDRAWN_OF_IDLE,
+            State::Asking(_) | State::Telling(_) => false,
+        };
+        of_kind && of_state && (fault != WITHDRAWN_AFTER_9 || self.nodes[&k].up)
+    }
+
+    /// Paper 6: the frame is gone from this board's cell, and nothing else changes.
+    fn withdraw(mut self, c: u32, k: u32, frame: Frame, fault: Fault) -> (Answer, Model) {
+        match (fault, frame) {
+            (WITHDRAWN_TAKEN, Frame::Put(tag, value)) => self.nodes.get_mut(&k).unwrap().take_put(tag, value, fault),
+            (WITHDRAWN_BY_ROW, _) => self.cells.retain(|(d, _), _| *d != c),
+            (WITHDRAWN_STAYS, _) => drop(self.cells.insert((c, k), frame)),
+            (WITHDRAWN_HANDED, _) => return self.after(Outcome::Handed),
+            _ => {}
+        }
+        self.after(Outcome::Discarded)
     }
 
     /// The console hears a reply that is gone from the next board's cell.

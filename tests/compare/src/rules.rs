@@ -1,10 +1,10 @@
 //! Demand 3's three rules, held to a run of the library by its steps and their answers alone: the progress rule with Paper 2's
 //! majority after each accepted step, the delivery bound at each delivery, the freshness rule at each finish. They are the same
 //! under both releases; an early finish (Paper 4) is held to half the bound besides, since it takes one phase. And what the runs
-//! show, counted: finishes, node ups, and how replies compared and what they did to the mark.
+//! show, counted: finishes, node ups, how replies compared and what they did to the mark, and frames that were withdrawn.
 use crate::faults::{Fault, BOUND_ONE_LESS, EARLY_BOUND_ONE_LESS, MAJORITY_ONE_LESS, READS_HIGHER};
-use crate::model::{Answer, Compared, Outcome, Step, Tag};
-use crate::words::place_of_mark;
+use crate::model::{Answer, Compared, Frame, Outcome, Step, Tag};
+use crate::words::{place_of_mark, read};
 use hatukeno::{Board, Refusal};
 use std::collections::{BTreeMap, BTreeSet};
 use std::process::exit;
@@ -53,11 +53,35 @@ pub struct Counts {
     pub cleared: u64,
     pub turned: u64,
     pub ended: u64,
+    /// Asks and puts that were withdrawn (Paper 6), those of both to a node that was down, and puts that their node, which was up,
+    /// would have taken.
+    pub asks_withdrawn: u64,
+    pub puts_withdrawn: u64,
+    pub withdrawn_from_down: u64,
+    pub kept_from_landing: u64,
 }
 
 impl Counts {
-    /// A delivery that names this console, from one board to the next.
-    fn add_delivery(&mut self, c: u32, answer: Answer, from: &Board, to: &Board) {
+    /// A discarded delivery of this console and node. Of asks and puts it is those of down consoles that are discarded.
+    fn add_discarded(&mut self, c: u32, k: u32, from: &Board) {
+        let from = read(from.words(), 0);
+        let (frame, node) = (from.cells[&(c, k)], &from.nodes[&k]);
+        match frame {
+            Frame::Ask => self.asks_withdrawn += 1,
+            Frame::Put(tag, _) => {
+                self.puts_withdrawn += 1;
+                self.kept_from_landing += u64::from(node.up && tag > node.tag);
+            }
+            Frame::Reply(..) | Frame::Ack => return,
+        }
+        self.withdrawn_from_down += u64::from(!node.up);
+    }
+
+    /// A delivery of this console and node, from one board to the next.
+    fn add_delivery(&mut self, c: u32, k: u32, answer: Answer, from: &Board, to: &Board) {
+        if answer.outcome == Ok(Outcome::Discarded) {
+            self.add_discarded(c, k, from);
+        }
         match answer.compared {
             Compared::None => return,
             Compared::Lower => self.lower += 1,
@@ -105,8 +129,8 @@ impl Run {
 
     /// Takes in a step with its answer, from one board of the library to the next. If a rule is broken, that ends the program.
     pub fn take(&mut self, step: Step, answer: Answer, from: &Board, to: &Board, counts: &mut Counts) {
-        if let Step::Deliver(c, _) = step {
-            counts.add_delivery(c, answer, from, to);
+        if let Step::Deliver(c, k) = step {
+            counts.add_delivery(c, k, answer, from, to);
         }
         match (step, answer.outcome) {
             (_, Ok(_)) => self.accept(step, answer, from, to, counts),
