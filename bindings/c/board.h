@@ -22,6 +22,9 @@
  * whose q replies (those of a majority) all carry the same tag finishes at that delivery, without telling; its other cells
  * stay as they are.
  *
+ * A console that goes down leaves its frames in their cells. Delivering one of them gives discarded, whether the node is up or
+ * down: the cell empties and nothing else changes, so a put of such a console reaches no node.
+ *
  * board_run puts a whole list of steps to a board, one after the other: STEP_WORDS words for a step, its number (below) and
  * its two numbers in the order in which the step's own call takes them; a second number that the step does not take is
  * passed over. A step whose number none has is refused with 12, on any board. `said` gets ANSWER_WORDS words for each step,

@@ -122,6 +122,8 @@ pub enum Outcome {
         tag: Tag,
         value: u32,
     },
+    /// The cell empties and nothing else changes: a reply or an ack that no console waits for, or any frame of a console that is
+    /// down.
     Discarded,
 }
 
@@ -217,17 +219,18 @@ impl Board {
     }
 
     /// The frame between the console and the node is delivered. Under release 2 a read whose q replies (those of a majority) all
-    /// carry the same tag finishes at that delivery, without telling; its other cells stay as they are.
+    /// carry the same tag finishes at that delivery, without telling; its other cells stay as they are. A frame of a console that is
+    /// down is discarded, whether the node is up or down: the node takes no put of such a console.
     pub fn deliver(&mut self, console: u32, node: u32) -> Result<Answer, Refusal> {
         self.call(|w, wl, s, sl| unsafe { board_deliver(w, wl, s, sl, console, node) })
     }
 
-    /// The node goes down: it keeps its tag and value, and frames for it wait.
+    /// The node goes down: it keeps its tag and value, and frames for it wait, except those of a console that is down.
     pub fn node_down(&mut self, node: u32) -> Result<Answer, Refusal> {
         self.call(|w, wl, s, sl| unsafe { board_node_down(w, wl, s, sl, node) })
     }
 
-    /// The console goes down for good.
+    /// The console goes down for good. Its frames stay in their cells until they are delivered, and are then discarded.
     pub fn console_down(&mut self, console: u32) -> Result<Answer, Refusal> {
         self.call(|w, wl, s, sl| unsafe { board_console_down(w, wl, s, sl, console) })
     }
@@ -325,6 +328,11 @@ mod tests {
         compared: Compared::Same,
     };
 
+    const DISCARDED: Answer = Answer {
+        outcome: Outcome::Discarded,
+        compared: Compared::None,
+    };
+
     const TURNED: Answer = Answer {
         outcome: Outcome::Turned,
         compared: Compared::Same,
@@ -396,6 +404,28 @@ mod tests {
         assert_eq!(board.console_down(0), Ok(DONE));
         assert_eq!(board.console_down(0), Err(Refusal(6)));
         assert_eq!(board.begin_read(0), Err(Refusal(6)));
+    }
+
+    #[test]
+    fn the_frames_of_a_down_console_are_withdrawn() {
+        let mut board = Board::fresh(3, 2).unwrap();
+        board.begin_read(0).unwrap();
+        board.begin_write(1, 7).unwrap();
+        assert_eq!(deliver_all(&mut board, 1, &[0, 0, 2, 2]), TURNED);
+        board.node_down(2).unwrap();
+        // Asks of console 0 and puts of console 1, to node 1 that is up and node 2 that is down.
+        for console in [0, 1] {
+            assert_eq!(board.deliver(console, 2), Err(Refusal(9)));
+            board.console_down(console).unwrap();
+            for node in [1, 2] {
+                let mut words = board.words;
+                let cell = CELLS + 4 * (5 * console + node) as usize;
+                words[cell..cell + 4].fill(0);
+                assert_eq!(board.deliver(console, node), Ok(DISCARDED));
+                assert_eq!(board.words, words);
+                assert_eq!(board.deliver(console, node), Err(Refusal(8)));
+            }
+        }
     }
 
     #[test]
