@@ -61,7 +61,7 @@ impl Board {
     }
 }
 
-// Whether f, a frame in a cell of console c, goes to the node though the console is down (document 02, Paper 6).
+// An ask or a put of a down console is withdrawn (document 02, Paper 6); f is the frame in a cell of console c.
 fn is_withdrawn(b: Board, c: ConsoleId, f: Frame) -> bool
     requires { ⌜ c .0 < maxConsoles ⌝ }
     ensures { λ r. ⌜ r ≡ isWithdrawn b (c .0) f ⌝ }
