@@ -6,6 +6,7 @@ use mathlib.Core.Path.{_≡_, refl, sym, _∙_}
 use native.Mathlib.Omega.{arith}
 use borrow.Author.Tests.{leb-true, leb-false, le-leb, ne-eqb, eq-eqb}
 use lib.Dec.{eqb, leb}
+use Rattle.parts.specs.Outcomes.{accepted}
 use Rattle.board.specs.declared.Answer.{Answer}
 use Rattle.board.specs.declared.Board.{Board}
 use Rattle.words.specs.Words.{boardWords, decoded, encoded}
@@ -49,13 +50,13 @@ long-answer w s e = go (leb answerWords s) refl e
 
 -- ---- writing back
 
-pub kept-done : (w : List ℕ) (a : Answer) → a .refusal ≡ 0 → encoded w (a .board) ≡ kept w a
+pub kept-done : (w : List ℕ) (a : Answer) → accepted (a .outcome) ≡ true → encoded w (a .board) ≡ kept w a
 unfolding kept
-kept-done w a e = rw (eq-eqb (a .refusal) 0 e)
+kept-done w a e = rw e
 
-pub kept-refused : (w : List ℕ) (a : Answer) → (a .refusal ≡ 0 → ⊥) → w ≡ kept w a
+pub kept-refused : (w : List ℕ) (a : Answer) → accepted (a .outcome) ≡ false → w ≡ kept w a
 unfolding kept
-kept-refused w a n = rw (ne-eqb (a .refusal) 0 n)
+kept-refused w a e = rw e
 
 -- ---- calls
 

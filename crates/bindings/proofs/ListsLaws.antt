@@ -1,15 +1,18 @@
 -- Laws of lists of steps.
 use Prim.Native.Nat.{ℕ, zero, suc, _+_, _*_, _/_, _%_, _≤_, _<_}
-use mathlib.Core.Bool.{Bool, true, false, cond}
+use mathlib.Core.Bool.{Bool, true, false, cond, not}
 use mathlib.Core.List.{List}
 use mathlib.Core.Path.{_≡_, refl, sym, ap, _∙_}
 use native.Mathlib.Numerals.{add-one}
 use native.Mathlib.Omega.{arith}
-use borrow.Author.Tests.{leb-true, leb-false, le-leb, ne-eqb, eq-eqb}
+use borrow.Author.Tests.{leb-true, leb-false, le-leb, ne-eqb, eq-eqb, not-false}
 use lib.Dec.{eqb, leb}
 use lib.ListN.{length, length-set}
+use Rattle.parts.specs.Outcomes.{accepted}
 use Rattle.board.specs.declared.Answer.{Answer}
 use Rattle.board.specs.declared.Board.{Board}
+use Rattle.board.specs.WellFormed.{wellFormed}
+use Rattle.verbs.proofs.VerbsLaws.{verb-keeps-well-formed}
 use Rattle.words.specs.Words.{boardWords, decoded, encoded}
 use Rattle.bindings.specs.declared.Course.{Course}
 use Rattle.bindings.specs.Calls.{answerWords, said}
@@ -58,13 +61,30 @@ module _ (w q s : ℕ) where
 
 -- ---- one step more
 
-pub go-on-done : (x : Course) (a : Answer) → a .refusal ≡ 0 → record { board = a .board; moved = true } ≡ goOn x a
+pub go-on-done : (x : Course) (a : Answer) → accepted (a .outcome) ≡ true → record { board = a .board; moved = true } ≡ goOn x a
 unfolding goOn
-go-on-done x a e = rw (eq-eqb (a .refusal) 0 e)
+go-on-done x a e = rw e
 
-pub go-on-refused : (x : Course) (a : Answer) → (a .refusal ≡ 0 → ⊥) → x ≡ goOn x a
+pub go-on-refused : (x : Course) (a : Answer) → accepted (a .outcome) ≡ false → x ≡ goOn x a
 unfolding goOn
-go-on-refused x a n = rw (ne-eqb (a .refusal) 0 n)
+go-on-refused x a e = rw e
+
+-- a well-formed board stays so
+go-on-formed : (x : Course) (a : Answer) → wellFormed (x .board) ≡ true → wellFormed (a .board) ≡ true → wellFormed (goOn x a .board) ≡ true
+unfolding goOn
+go-on-formed x a h i = go (accepted (a .outcome))
+  where
+    go : (y : Bool) → wellFormed (cond y (record { board = a .board; moved = true }) x .board) ≡ true
+    go true = i
+    go false = h
+
+-- so what was known of the board is still so after a step, if it was well formed
+pub still-formed : (formed : Bool) (q : List ℕ) (k : ℕ) (x y : Course) → formed ≡ wellFormed (x .board) → not formed ≡ false → y ≡ goOn x (stepAt q k (x .board)) → formed ≡ wellFormed (y .board)
+unfolding stepAt
+still-formed formed q k x y h n e =
+    let yes : formed ≡ true = not-false formed n in
+    let was : wellFormed (x .board) ≡ true = sym h ∙ yes in
+    yes ∙ sym (ap (λ (z : Course). wellFormed (z .board)) e ∙ go-on-formed x _ was (verb-keeps-well-formed _ _ _ (x .board) was))
 
 pub after-more : (q : List ℕ) (b : Board) (k : ℕ) → goOn (after q b k) (stepAt q k (after q b k .board)) ≡ after q b (k + 1)
 unfolding after

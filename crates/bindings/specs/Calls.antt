@@ -5,7 +5,7 @@ use mathlib.Core.List.{List}
 use mathlib.Core.Path.{_≡_}
 use lib.Dec.{eqb, leb}
 use lib.ListN.{length, set}
-use Rattle.parts.specs.Outcomes.{outcomeNumber, outcomeTag, outcomeValue, comparedNumber}
+use Rattle.parts.specs.Outcomes.{accepted, outcomeNumber, outcomeTag, outcomeValue, comparedNumber}
 use Rattle.board.specs.declared.Answer.{Answer}
 use Rattle.board.specs.declared.Board.{Board}
 use Rattle.words.specs.Words.{boardWords, decoded, encoded, putFour}
@@ -20,7 +20,7 @@ said s p a = set (set (putFour s p (outcomeNumber (a .outcome)) (a .refusal) (ou
 
 -- on a refusal nothing of the lent board is written
 unfoldable pub kept : List ℕ → Answer → List ℕ
-kept w a = cond (eqb (a .refusal) 0) (encoded w (a .board)) w
+kept w a = cond (accepted (a .outcome)) (encoded w (a .board)) w
 
 -- by the lengths, 0: the step was put to the board; 1: there are too few words for a board; 2: too few for an answer
 unfoldable pub shortBy : ℕ → ℕ → ℕ

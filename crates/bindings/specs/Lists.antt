@@ -5,6 +5,7 @@ use mathlib.Core.List.{List}
 use mathlib.Core.Path.{_≡_}
 use lib.Dec.{eqb, leb}
 use lib.ListN.{length}
+use Rattle.parts.specs.Outcomes.{accepted}
 use Rattle.board.specs.declared.Answer.{Answer}
 use Rattle.board.specs.declared.Board.{Board}
 use Rattle.verbs.specs.Verbs.{stepOf}
@@ -22,7 +23,7 @@ stepAt q i = stepOf (word q (i * stepWords)) (word q (i * stepWords + 1)) (word 
 
 -- a refused step leaves the board as it was, a refused fresh too
 unfoldable pub goOn : Course → Answer → Course
-goOn x a = cond (eqb (a .refusal) 0) (record { board = a .board; moved = true }) x
+goOn x a = cond (accepted (a .outcome)) (record { board = a .board; moved = true }) x
 
 -- the board after the first k steps, and whether one of them was accepted
 unfoldable pub after : List ℕ → Board → ℕ → Course

@@ -39,7 +39,8 @@ fn keep(w: &mut [u32], a: Answer)
     requires { ⌜ boardWords ≤ length (now w) ⌝ }
     ensures { λ r. ⌜ now (w .exit) ≡ kept (now (w .entry)) a ⌝ }
 {
-    if a.refusal == 0 {
+    let o = a.outcome;
+    if o.is_accepted() {
         let b = a.board;
         encode(w, b);
     }

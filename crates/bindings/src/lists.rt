@@ -3,6 +3,7 @@
 ghost use mathlib.Core.Path.{_≡_};
 ghost use Prim.Native.Nat.{_+_, _*_, _≤_};
 ghost use lib.ListN.{length};
+ghost use Rattle.board.specs.WellFormed.{wellFormed};
 ghost use Rattle.words.specs.Words.{boardWords};
 ghost use Rattle.bindings.specs.Calls.{answerWords};
 ghost use Rattle.bindings.specs.Lists.{stepWords, stepAt, goOn, after, answers, keptAfter, stepsIn, listShortBy, Ran};
@@ -11,7 +12,7 @@ use crate::calls::ANSWER_WORDS;
 use crate::calls::put_answer;
 use board::Answer;
 use board::Board;
-use verbs::step_of;
+use verbs::step_known;
 use words::BOARD_WORDS;
 use words::reading::decode;
 use words::writing::encode;
@@ -39,7 +40,8 @@ fn list_short_by(w: usize, q: usize, s: usize) -> u32
 fn go_on(x: Course, a: Answer) -> Course
     ensures { λ r. ⌜ r ≡ goOn x a ⌝ }
 {
-    if a.refusal != 0 {
+    let o = a.outcome;
+    if !o.is_accepted() {
         return x;
     }
     let b = a.board;
@@ -60,20 +62,24 @@ fn keep_after(w: &mut [u32], x: Course)
     }
 }
 
-// The step at place i of the list, put to the board. The caller has seen that the list reaches so far.
-fn step_at(q: &[u32], i: usize, b: Board) -> Answer
+// The step at place i of the list, put to the board. The caller has seen that the list reaches so far, and knows whether the board is well
+// formed.
+fn step_at(q: &[u32], i: usize, b: Board, formed: bool) -> Answer
     requires { ⌜ i * stepWords + stepWords ≤ length (now q) ⌝ }
+    requires { ⌜ formed ≡ wellFormed b ⌝ }
     ensures { λ r. ⌜ r ≡ stepAt (now (q .entry)) i b ⌝ }
 {
-    step_of(
+    step_known(
         b,
+        formed,
         q[i * STEP_WORDS],
         q[i * STEP_WORDS + 1],
         q[i * STEP_WORDS + 2],
     )
 }
 
-// Puts the steps to the board b, with their answers into s. The caller has seen that s reaches for them.
+// Puts the steps to the board b, with their answers into s. The caller has seen that s reaches for them. Question 1 is asked once: a
+// well-formed board stays so. If it is not, a step may still make a fresh one.
 fn run_steps(q: &[u32], s: &mut [u32], b: Board) -> Course
     requires { ⌜ stepsIn (length (now q)) * answerWords ≤ length (now s) ⌝ }
     ensures { λ r. ⌜ (r ≡ after (now (q .entry)) b (stepsIn (length (now (q .entry))))) × (now (s .exit) ≡ answers (now (q .entry)) b (now (s .entry)) (stepsIn (length (now (q .entry))))) ⌝ }
@@ -83,12 +89,17 @@ fn run_steps(q: &[u32], s: &mut [u32], b: Board) -> Course
         board: b,
         moved: false,
     };
+    let mut formed = b.is_well_formed();
     let mut i: usize = 0;
     while i < count {
-        let a = step_at(q, i, x.board);
+        let a = step_at(q, i, x.board, formed);
         put_answer(s, i * ANSWER_WORDS, a);
         x = go_on(x, a);
         i += 1;
+        if !formed {
+            let next = x.board;
+            formed = next.is_well_formed();
+        }
     }
     x
 }

@@ -1,4 +1,3 @@
 -- Laws of the definitions, which the proofs of functions cite, and P1 to P10. The functions' own proofs stand in the folders beside.
-pub mod AnswersLaws
 pub mod WellFormedLaws
 pub mod PRunsHold

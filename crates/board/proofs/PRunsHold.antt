@@ -9,11 +9,14 @@ use Rattle.parts.specs.Sizes.{majority, askSize, tellSize}
 use Rattle.parts.specs.Parts.{nodeIn, consoleIn, frameIn, place, setFrame, setRow}
 use Rattle.checks.specs.Clauses.{nodesAllowed, consolesAllowed, setupOk, isZero, tagOk, nodeOk, nodesOk, restOk, wantedOk, waitOk, stateOk, markOk, consoleOk, consolesOk, frameOk, cellOk, rowOk, cellsOk}
 use Rattle.changes.specs.Changes.{withUp, taken, rests, asks, awaits, stillAlike, hears, takesIn, nextTag, tells, acked}
+use Rattle.changes.specs.Questions.{guarded}
+use Rattle.changes.specs.Decisions.{begins, ends, falls, rises}
+use Rattle.changes.specs.Deliver.{onAsk, onPut, discards, heard, finished, turned, finishesEarly, replied, onReply, acknowledged, onAck, onFrame, delivered}
 use Rattle.board.specs.Boards.{nodeAt, consoleAt, frameAt, withNode, withConsole, withFrame, withRow, freshBoard}
 use Rattle.board.specs.WellFormed.{wellFormed}
-use Rattle.board.specs.Answers.{guarded}
-use Rattle.board.specs.Steps.{fresh, begun, begin, nodeDown, nodeUp, consoleDown}
-use Rattle.board.specs.Deliver.{toNode, onAsk, onPut, discards, heard, finished, finishesEarly, turned, replied, onReply, acknowledged, onAck, onFrame, deliver}
+use Rattle.board.specs.Applied.{withSent, withPart, applied}
+use Rattle.board.specs.Steps.{fresh, begin, nodeDown, nodeUp, consoleDown}
+use Rattle.board.specs.Deliver.{deliver}
 use Rattle.board.specs.Runs.{step}
 use Rattle.board.specs.PRuns.{PRun, Seen, seen, after, allSeen, shows, mustShow, pRuns}
 use Rattle.board.specs.UpRuns.{upRuns}
@@ -23,7 +26,7 @@ use Rattle.board.specs.DeadRuns.{deadRuns}
 
 -- what runs show, with every definition opened
 opened : List PRun → List CompareRun → List (List Seen) × List (List Told)
-unfolding every count greater compared member insert size onlyBelow majority askSize tellSize nodeIn consoleIn frameIn place setFrame setRow nodesAllowed consolesAllowed setupOk isZero tagOk nodeOk nodesOk restOk wantedOk waitOk stateOk markOk consoleOk consolesOk frameOk cellOk rowOk cellsOk withUp taken rests asks awaits stillAlike hears takesIn nextTag tells acked nodeAt consoleAt frameAt withNode withConsole withFrame withRow freshBoard wellFormed guarded fresh begun begin nodeDown nodeUp consoleDown toNode onAsk onPut discards heard finished finishesEarly turned replied onReply acknowledged onAck onFrame deliver step seen after allSeen allTold
+unfolding every count greater compared member insert size onlyBelow majority askSize tellSize nodeIn consoleIn frameIn place setFrame setRow nodesAllowed consolesAllowed setupOk isZero tagOk nodeOk nodesOk restOk wantedOk waitOk stateOk markOk consoleOk consolesOk frameOk cellOk rowOk cellsOk withUp taken rests asks awaits stillAlike hears takesIn nextTag tells acked nodeAt consoleAt frameAt withNode withConsole withFrame withRow freshBoard wellFormed guarded begins ends falls rises fresh begin nodeDown nodeUp consoleDown onAsk onPut discards heard finished turned finishesEarly replied onReply acknowledged onAck onFrame delivered withSent withPart applied deliver step seen after allSeen allTold
 opened rs cs = (map shows rs, map says cs)
 
 pub p-runs-hold : map shows pRuns ≡ map mustShow pRuns

@@ -12,17 +12,17 @@ use Rattle.parts.specs.declared.Setup.{Setup}
 use Rattle.parts.specs.Limits.{maxTs}
 use Rattle.parts.proofs.FiniteLaws.{and-left, and-right, every-at}
 use Rattle.checks.specs.Clauses.{nodesAllowed, consolesAllowed, setupOk, tagOk, nodeOk, nodesOk, markOk, consoleOk, consolesOk, frameOk, cellOk, rowOk, cellsOk}
+use Rattle.changes.specs.Deliver.{Comparable}
 use Rattle.board.specs.declared.Board.{Board}
 use Rattle.board.specs.Boards.{nodeAt, consoleAt, frameAt}
 use Rattle.board.specs.WellFormed.{wellFormed}
-use Rattle.board.specs.InRange.{InRange}
 
 tag-below : (σ : Setup) (t : Tag) (v : ℕ) → tagOk σ t v ≡ true → t .console < σ .m
 unfolding tagOk
 tag-below σ t v h = ltb-true (t .console) (σ .m) (and-right (leb (t .ts) maxTs) _ (and-left (leb (t .ts) maxTs && ltb (t .console) (σ .m)) _ h))
 
 module _ (b : Board) (h : wellFormed b ≡ true) where
-  setup-part : setupOk (b .setup) ≡ true
+  pub setup-part : setupOk (b .setup) ≡ true
   unfolding wellFormed
   setup-part = and-left (setupOk (b .setup)) _ (and-left (setupOk (b .setup) && nodesOk (b .setup) (b .nodes)) _ (and-left (setupOk (b .setup) && nodesOk (b .setup) (b .nodes) && consolesOk (b .setup) (b .consoles)) _ h))
 
@@ -46,51 +46,40 @@ module _ (b : Board) (h : wellFormed b ≡ true) where
   unfolding setupOk consolesAllowed nodesAllowed
   m-at-most = leb-true (b .setup .m) 8 (and-right (leb 1 (b .setup .m)) _ (and-right (leb 1 (b .setup .n) && leb (b .setup .n) 5) _ setup-part))
 
-  module _ (c k : ℕ) (cm : c < b .setup .m) (kn : k < b .setup .n) where
-    node-passes : nodeOk (b .setup) k (nodeAt b k) ≡ true
-    unfolding nodesOk nodeAt
-    node-passes = every-at (λ k. nodeOk (b .setup) k (nodeAt b k)) 5 nodes-part k (omega (arith, n-at-most))
+  -- ---- each part passes its clause
 
+  pub node-passes : (k : ℕ) → k < 5 → nodeOk (b .setup) k (nodeAt b k) ≡ true
+  unfolding nodesOk nodeAt
+  node-passes = every-at (λ k. nodeOk (b .setup) k (nodeAt b k)) 5 nodes-part
+
+  pub console-passes : (c : ℕ) → c < 8 → consoleOk (b .setup) c (consoleAt b c) ≡ true
+  unfolding consolesOk consoleAt
+  console-passes = every-at (λ c. consoleOk (b .setup) c (consoleAt b c)) 8 consoles-part
+
+  pub cell-passes : (c k : ℕ) → c < 8 → k < 5 → cellOk (b .setup) c k (frameAt b c k) ≡ true
+  unfolding cellsOk rowOk frameAt
+  cell-passes c k l i = every-at (λ k. cellOk (b .setup) c k (frameAt b c k)) 5 (every-at (rowOk (b .setup) (b .cells)) 8 cells-part c l) k i
+
+  module _ (c k : ℕ) (cm : c < b .setup .m) (kn : k < b .setup .n) where
     node-tag : tagOk (b .setup) (nodeAt b k .tag) (nodeAt b k .value) ≡ true
     unfolding nodeOk
-    node-tag = rw (lt-ltb k (b .setup .n) kn) at node-passes
-
-    console-passes : consoleOk (b .setup) c (consoleAt b c) ≡ true
-    unfolding consolesOk consoleAt
-    console-passes = every-at (λ c. consoleOk (b .setup) c (consoleAt b c)) 8 consoles-part c (omega (arith, m-at-most))
+    node-tag = rw (lt-ltb k (b .setup .n) kn) at (node-passes k (omega (arith, n-at-most)))
 
     best-tag : tagOk (b .setup) (consoleAt b c .best) (consoleAt b c .value) ≡ true
     unfolding consoleOk
-    best-tag = and-left (tagOk (b .setup) (consoleAt b c .best) (consoleAt b c .value)) _ (and-right (markOk (consoleAt b c) (consoleAt b c .state)) _ (rw (lt-ltb c (b .setup .m) cm) at console-passes))
-
-    row-passes : rowOk (b .setup) (b .cells) c ≡ true
-    unfolding cellsOk
-    row-passes = every-at (rowOk (b .setup) (b .cells)) 8 cells-part c (omega (arith, m-at-most))
-
-    cell-passes : cellOk (b .setup) c k (frameAt b c k) ≡ true
-    unfolding rowOk frameAt
-    cell-passes = every-at (λ k. cellOk (b .setup) c k (frameAt b c k)) 5 row-passes k (omega (arith, n-at-most))
+    best-tag = and-left (tagOk (b .setup) (consoleAt b c .best) (consoleAt b c .value)) _ (and-right (markOk (consoleAt b c) (consoleAt b c .state)) _ (rw (lt-ltb c (b .setup .m) cm) at (console-passes c (omega (arith, m-at-most)))))
 
     frame-passes : frameOk (b .setup) (frameAt b c k) ≡ true
     unfolding cellOk
-    frame-passes = rw (lt-ltb c (b .setup .m) cm, lt-ltb k (b .setup .n) kn) at cell-passes
+    frame-passes = rw (lt-ltb c (b .setup .m) cm, lt-ltb k (b .setup .n) kn) at (cell-passes c k (omega (arith, m-at-most)) (omega (arith, n-at-most)))
 
-    -- ---- the console numbers of the tags that a delivery compares
-
-    pub node-below : nodeAt b k .tag .console < 8
-    node-below = omega (arith, tag-below (b .setup) (nodeAt b k .tag) (nodeAt b k .value) node-tag, m-at-most)
-
-    pub best-below : consoleAt b c .best .console < 8
-    best-below = omega (arith, tag-below (b .setup) (consoleAt b c .best) (consoleAt b c .value) best-tag, m-at-most)
-
-    pub reply-below : (t : Tag) (v : ℕ) → frameAt b c k ≡ Reply t v → t .console < 8
+    -- the tags that a delivery compares have console numbers below 8
+    pub comparable : Comparable k (consoleAt b c) (nodeAt b k) (frameAt b c k)
     unfolding frameOk
-    reply-below t v e = omega (arith, tag-below (b .setup) t v (rw e at frame-passes), m-at-most)
-
-    pub put-below : (t : Tag) (v : ℕ) → frameAt b c k ≡ Put t v → t .console < 8
-    unfolding frameOk
-    put-below t v e = omega (arith, tag-below (b .setup) t v (rw e at frame-passes), m-at-most)
-
--- what deliver has found puts its numbers within the lists
-pub within : {b : Board} {c k : ℕ} → InRange b c k → (c < 8) × (k < 5) × (b .setup .n ≤ 5)
-within {b} d = omega (arith, d .c-m, d .k-n, m-at-most b (d .formed), n-at-most b (d .formed))
+    comparable = record {
+      k-8 = omega (arith, n-at-most);
+      best = omega (arith, tag-below (b .setup) (consoleAt b c .best) (consoleAt b c .value) best-tag, m-at-most);
+      node = omega (arith, tag-below (b .setup) (nodeAt b k .tag) (nodeAt b k .value) node-tag, m-at-most);
+      reply = λ t v e. omega (arith, tag-below (b .setup) t v (rw e at frame-passes), m-at-most);
+      put = λ t v e. omega (arith, tag-below (b .setup) t v (rw e at frame-passes), m-at-most);
+    }

@@ -2,10 +2,9 @@
 pub mod Boards
 pub mod WellFormed
 pub mod Answers
-pub mod Questions
+pub mod Applied
 pub mod Steps
 pub mod Deliver
-pub mod InRange
 pub mod Runs
 pub mod PRuns
 pub mod UpRuns

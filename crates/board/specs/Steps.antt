@@ -1,22 +1,21 @@
 -- The steps but for deliver (document 01, 'The steps'): fresh, begin read, begin write, node down, console down; and node up
--- (document 02, Paper 2). Each is its questions and then its effect.
+-- (document 02, Paper 2). Each but fresh is what changes' Decisions says of its console or node, its questions with it, done on the board.
 use Prim.Native.Nat.{ℕ}
-use mathlib.Core.Bool.{true, false}
 use mathlib.Core.List.{[], _∷_}
-use Rattle.parts.specs.declared.Frame.the-variants.{Ask}
 use Rattle.parts.specs.declared.Kind.{Kind}
 use Rattle.parts.specs.declared.Kind.the-variants.{Read, Write}
-use Rattle.parts.specs.declared.State.the-variants.{Down}
 use Rattle.parts.specs.declared.Release.{Release}
 use Rattle.parts.specs.declared.Release.the-variants.{One}
 use Rattle.parts.specs.declared.Setup.{Setup}
-use Rattle.changes.specs.Changes.{withUp, rests, asks}
+use Rattle.changes.specs.Questions.{guarded, has-allowed-nodes, has-allowed-consoles}
+use Rattle.changes.specs.Decisions.{begins, ends, falls, rises}
 use Rattle.board.specs.declared.Board.{Board}
 use Rattle.parts.specs.declared.Outcome.the-variants.{Done}
 use Rattle.board.specs.declared.Answer.{Answer}
-use Rattle.board.specs.Boards.{nodeAt, consoleAt, withNode, withConsole, withRow, freshBoard}
-use Rattle.board.specs.Answers.{answer, guarded}
-use Rattle.board.specs.Questions.{is-well-formed, has-allowed-nodes, has-allowed-consoles, has-console, has-node, console-is-up, console-is-idle, node-is-up, node-is-down}
+use Rattle.board.specs.Boards.{nodeAt, consoleAt, freshBoard}
+use Rattle.board.specs.WellFormed.{wellFormed}
+use Rattle.board.specs.Answers.{answer, refuse}
+use Rattle.board.specs.Applied.{applied}
 
 -- n nodes and m consoles, under a release
 abbrev pub setupOf : ℕ → ℕ → Release → Setup
@@ -31,21 +30,13 @@ smallest = setupOf 1 1 One
 unfoldable pub fresh : Setup → Answer
 fresh σ =
     guarded
-    (has-allowed-nodes (σ .n) ∷ has-allowed-consoles (σ .m) ∷ [])
-    (freshBoard smallest)
+    (has-allowed-nodes σ ∷ has-allowed-consoles σ ∷ [])
+    (refuse (freshBoard smallest))
     (answer Done (freshBoard σ))
-
--- 'The console becomes asking .. All n of its cells become ask, whatever they held'
-unfoldable pub begun : Board → ℕ → Kind → ℕ → Board
-begun b c w v = withConsole (withRow b c Ask) c (asks w v (consoleAt b c))
 
 -- a begin of either kind; v is the wanted value
 unfoldable pub begin : Board → ℕ → Kind → ℕ → Answer
-begin b c w v =
-    guarded
-    (is-well-formed b ∷ has-console b c ∷ console-is-up b c ∷ console-is-idle b c ∷ [])
-    b
-    (answer Done (begun b c w v))
+begin b c w v = applied b c 0 (begins (wellFormed b) (b .setup) c w v (consoleAt b c))
 
 -- 'Begin read' (console); 'the wanted value (0 for a read)'
 abbrev pub beginRead : Board → ℕ → Answer
@@ -55,27 +46,14 @@ beginRead b c = begin b c Read 0
 abbrev pub beginWrite : Board → ℕ → ℕ → Answer
 beginWrite b c v = begin b c Write v
 
--- 'Node down (node): the node keeps tag and value, and nothing is delivered to it' (question 9)
+-- Node down (node)
 unfoldable pub nodeDown : Board → ℕ → Answer
-nodeDown b k =
-    guarded
-    (is-well-formed b ∷ has-node b k ∷ node-is-up b k ∷ [])
-    b
-    (answer Done (withNode b k (withUp false (nodeAt b k))))
+nodeDown b k = applied b 0 k (falls (wellFormed b) (b .setup) k (nodeAt b k))
 
--- Node up (node): 'the node resumes with the tag and value it held, and frames waiting for it can be delivered again'
--- (question 9)
+-- Node up (node)
 unfoldable pub nodeUp : Board → ℕ → Answer
-nodeUp b k =
-    guarded
-    (is-well-formed b ∷ has-node b k ∷ node-is-down b k ∷ [])
-    b
-    (answer Done (withNode b k (withUp true (nodeAt b k))))
+nodeUp b k = applied b 0 k (rises (wellFormed b) (b .setup) k (nodeAt b k))
 
--- 'Console down (console): down for good, its operation gone, its cells as they are'
+-- Console down (console)
 unfoldable pub consoleDown : Board → ℕ → Answer
-consoleDown b c =
-    guarded
-    (is-well-formed b ∷ has-console b c ∷ console-is-up b c ∷ [])
-    b
-    (answer Done (withConsole b c (rests Down (consoleAt b c))))
+consoleDown b c = applied b c 0 (ends (wellFormed b) (b .setup) c (consoleAt b c))

@@ -28,7 +28,7 @@ impl Answer {
 
     // A step that is refused with this number, with the board to hand back.
     pub fn refused(refusal: u32, board: Board) -> Answer
-        ensures { λ r. ⌜ r ≡ refuse refusal board ⌝ }
+        ensures { λ r. ⌜ r ≡ refuse board refusal ⌝ }
     {
         Answer {
             outcome: Outcome::Refused,

@@ -1,4 +1,5 @@
 // The board: one register copied on n nodes, its m consoles, and every frame in flight between them.
+pub use changes::refusals;
 pub use parts::Cell;
 pub use parts::Compared;
 pub use parts::Console;
@@ -32,9 +33,9 @@ pub struct Answer {
 }
 
 mod answers;
+mod applying;
 mod checking;
 mod delivery;
 mod making;
 mod places;
-pub mod refusals;
 mod steps;

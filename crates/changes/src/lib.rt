@@ -1,6 +1,9 @@
-// How the steps change a node and a console. These functions are for the board's steps.
+// How the steps change a node and a console, and what a delivery comes to. These functions are for the board's steps.
 use parts::Compared;
 use parts::Console;
+use parts::Frame;
+use parts::Node;
+use parts::Outcome;
 
 // A reply taken in: the console with it, and how its tag compared with the best tag before it.
 pub struct TakenIn {
@@ -8,7 +11,38 @@ pub struct TakenIn {
     pub compared: Compared,
 }
 
+// The part that a step changes beside the cells: neither, its console or its node.
+pub enum Part {
+    Neither,
+    ConsoleTo(Console),
+    NodeTo(Node),
+}
+
+// What a step puts into the cells: nothing, a frame into the cell of its console and node, or one into all n of its console's.
+pub enum Sent {
+    Keep,
+    One(Frame),
+    Row(Frame),
+}
+
+// An accepted step: its outcome, how the tag of a reply that it took in compared, and what becomes of the board's parts and cells.
+pub struct Change {
+    pub outcome: Outcome,
+    pub compared: Compared,
+    pub part: Part,
+    pub sent: Sent,
+}
+
+// What a step comes to: the number of the question that refuses it, or what it changes.
+pub enum Decision {
+    Refuse(u32),
+    Accept(Change),
+}
+
 pub mod consoles;
+pub mod decisions;
+pub mod delivery;
 pub mod hearing;
 pub mod nodes;
+pub mod refusals;
 pub mod telling;

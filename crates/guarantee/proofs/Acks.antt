@@ -15,10 +15,10 @@ use Rattle.parts.specs.declared.Setup.{Setup}
 use Rattle.changes.specs.Changes.{acked}
 use Rattle.board.specs.Answers.{answer}
 use Rattle.board.specs.Boards.{consoleAt, frameAt, withConsole, withFrame}
-use Rattle.board.specs.Deliver.{finished}
 use Rattle.board.specs.declared.Board.{Board}
 use Rattle.guarantee.proofs.Tags.{key}
 use Rattle.guarantee.proofs.States.{telling-waits}
+use Rattle.guarantee.proofs.Views.{finished}
 use Rattle.guarantee.proofs.Rows.{Held, RowOk, acked-floor, acked-row, finished-held}
 use Rattle.guarantee.proofs.Boards.{TagKind, tags}
 use Rattle.guarantee.proofs.Consoles.{WaitsOk, acked-ok}

@@ -1,13 +1,12 @@
 -- What holds of every board that a run reaches (BoardOk), that a step at one console keeps it for the others (Beside, kept),
 -- and that such a board is well formed.
-use Prim.Native.Nat.{ℕ, zero, suc, _≤_, _<_}
+use Prim.Native.Nat.{ℕ, _≤_, _<_}
 use mathlib.Core.Bool.{Bool, true, false, cond, _&&_}
 use mathlib.Core.Logic.{inl, inr, _≢_, _⊎_}
-use mathlib.Core.Path.{refl, sym, subst, _≡_, _∙_}
+use mathlib.Core.Path.{refl, _≡_, _∙_}
 use native.Mathlib.Omega.{arith}
 use borrow.Author.Tests.{ltb-true, ltb-false, eqb-true, eqb-false, le-leb}
 use lib.Dec.{ltb, eqb}
-use Rattle.parts.specs.Finite.{every}
 use Rattle.parts.specs.Parts.{freshNode, idleConsole, isIdle, isNothing}
 use Rattle.parts.specs.declared.Console.{Console}
 use Rattle.parts.specs.declared.Frame.{Frame}
@@ -16,7 +15,7 @@ use Rattle.parts.specs.declared.Node.{Node}
 use Rattle.parts.specs.declared.Setup.{Setup}
 use Rattle.parts.specs.declared.State.{State}
 use Rattle.parts.specs.declared.Tag.{Tag}
-use Rattle.checks.specs.Clauses.{cellOk, cellsOk, consoleOk, consolesAllowed, consolesOk, frameOk, isZero, markOk, nodeOk, nodesAllowed, nodesOk, restOk, rowOk, setupOk, stateOk, tagOk}
+use Rattle.checks.specs.Clauses.{cellOk, consoleOk, consolesAllowed, frameOk, isZero, markOk, nodeOk, nodesAllowed, restOk, setupOk, stateOk, tagOk}
 use Rattle.board.specs.Boards.{consoleAt, frameAt, nodeAt, withConsole, withFrame, withNode, withRow}
 use Rattle.board.specs.WellFormed.{wellFormed}
 use Rattle.board.specs.declared.Board.{Board}
@@ -25,6 +24,7 @@ use Rattle.guarantee.proofs.Sizes.{Allowed}
 use Rattle.guarantee.proofs.States.{both, split}
 use Rattle.guarantee.proofs.Shapes.{Shape, console-other, frame-other, node-other, nodes-with, row-other, shape-console, shape-frame, shape-node, shape-row}
 use Rattle.guarantee.proofs.Rows.{Backed, Floor, RowOk, grow-row}
+use Rattle.guarantee.proofs.Formed.{formed-whole}
 
 abbrev pub tags : Board → ℕ → Tag
 tags b k = nodeAt b k .tag
@@ -195,11 +195,6 @@ board-up {K} {K′} {σ} {b} up h = record {
 
 -- ---- a board that is so is well formed
 
-every-all : (n : ℕ) (p : ℕ → Bool) → ((k : ℕ) → k < n → p k ≡ true) → every n p ≡ true
-unfolding every
-every-all zero p h = refl
-every-all (suc n) p h = both (every-all n p (λ k l. h k (omega arith))) (h n (omega arith))
-
 -- the tags pass question 1
 abbrev pub Good : Setup → TagKind
 Good σ t v = tagOk σ t v ≡ true
@@ -230,21 +225,14 @@ module _ {σ : Setup} (b : Board) (h : BoardOk (Good σ) σ b) where
       go true e = both (h .console-in c (omega (arith, ltb-true)) .mark) (both (h .tagged .best c (omega (arith, ltb-true))) (h .console-in c (omega (arith, ltb-true)) .state))
       go false e = rw (h .console-out c (omega (arith, ltb-false)))
 
-  cell-passes : (c : ℕ) → c < 8 → (k : ℕ) → k < 5 → cellOk σ c k (frameAt b c k) ≡ true
+  cell-passes : (c k : ℕ) → c < 8 → k < 5 → cellOk σ c k (frameAt b c k) ≡ true
   unfolding cellOk
-  cell-passes c l k i = go (ltb c (σ .m)) refl (ltb k (σ .n)) refl
+  cell-passes c k l i = go (ltb c (σ .m)) refl (ltb k (σ .n)) refl
     where
       go : (x : Bool) → ltb c (σ .m) ≡ x → (y : Bool) → ltb k (σ .n) ≡ y → cond (x && y) (frameOk σ (frameAt b c k)) (isNothing (frameAt b c k)) ≡ true
       go true e true f = frame-good σ (frameAt b c k) (h .tagged .frame c k (omega (arith, ltb-true)) (omega (arith, ltb-true)))
       go true e false f = rw (h .frame-out c k i (inr (omega (arith, ltb-false))))
       go false e y f = rw (h .frame-out c k i (inl (omega (arith, ltb-false))))
 
-  passes : (setupOk σ && nodesOk σ (b .nodes) && consolesOk σ (b .consoles) && cellsOk σ (b .cells)) ≡ true
-  unfolding nodesOk consolesOk cellsOk rowOk nodeAt consoleAt frameAt
-  passes = both (both (both (setup-good σ (h .shape .allowed)) (every-all 5 (λ k. nodeOk σ k (nodeAt b k)) node-passes))
-      (every-all 8 (λ c. consoleOk σ c (consoleAt b c)) console-passes))
-      (every-all 8 (λ c. every 5 (λ k. cellOk σ c k (frameAt b c k))) (λ c l. every-all 5 (λ k. cellOk σ c k (frameAt b c k)) (cell-passes c l)))
-
   pub well-formed : wellFormed b ≡ true
-  unfolding wellFormed
-  well-formed = subst (λ (τ : Setup). (setupOk τ && nodesOk τ (b .nodes) && consolesOk τ (b .consoles) && cellsOk τ (b .cells)) ≡ true) (sym (h .shape .setup-is)) passes
+  well-formed = formed-whole b (record { setup-is = h .shape .setup-is; setup = setup-good σ (h .shape .allowed); node = node-passes; console = console-passes; cell = cell-passes })

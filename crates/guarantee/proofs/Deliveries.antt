@@ -24,7 +24,7 @@ use Rattle.guarantee.proofs.Replies.{early-effect, hear-effect, turn-ef
 use Rattle.guarantee.proofs.Acks.{hear-ack-effect, last-ack-effect}
 
 pub data StepEffect (K : TagKind) (σ : Setup) (c : ℕ) (b : Board) : Answer → Type 0 where
-  refusal : {r : ℕ} → StepEffect K σ c b (refuse r b)
+  refusal : {r : ℕ} → StepEffect K σ c b (refuse b r)
   effect : {a : Answer} → c < σ .m → Effect K σ c b a → StepEffect K σ c b a
 
 -- where a write turns, the tag that it chooses is of the kind K: the one thing that a step asks of a kind

@@ -12,9 +12,9 @@ use Rattle.parts.specs.declared.Setup.{Setup}
 use Rattle.parts.specs.declared.State.the-variants.{Idle}
 use Rattle.changes.specs.Changes.{rests}
 use Rattle.board.specs.Boards.{consoleAt, frameAt, nodeAt, withConsole, withFrame}
-use Rattle.board.specs.Deliver.{finished}
 use Rattle.board.specs.declared.Board.{Board}
 use Rattle.guarantee.proofs.Tags.{key}
+use Rattle.guarantee.proofs.Views.{finished}
 use Rattle.guarantee.proofs.Rows.{Held, RowOk, rest-row}
 use Rattle.guarantee.proofs.Boards.{BoardOk, TagKind, tags}
 use Rattle.guarantee.proofs.Consoles.{rests-ok}

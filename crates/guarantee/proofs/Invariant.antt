@@ -4,23 +4,25 @@ use Prim.Native.Nat.{ℕ, _+_, _≤_, _<_}
 use mathlib.Core.Bool.{Bool, true, false}
 use mathlib.Core.List.{List}
 use mathlib.Core.Logic.{inl, inr, _≢_, _⊎_}
-use mathlib.Core.Path.{refl, _≡_, _∙_}
+use mathlib.Core.Path.{refl, ap, _≡_, _∙_}
 use native.Mathlib.Omega.{arith}
 use borrow.Author.Tests.{eqb-true, eqb-false}
 use lib.Dec.{eqb}
+use Rattle.parts.proofs.FiniteLaws.{and-left, and-right}
 use Rattle.parts.specs.Parts.{isWaiting, place}
 use Rattle.parts.specs.declared.Setup.{Setup}
 use Rattle.board.specs.Boards.{consoleAt, nodeAt}
 use Rattle.board.specs.declared.Board.{Board}
 use Rattle.guarantee.specs.Claim.{All, Any, OpenAt}
-use Rattle.guarantee.specs.Log.{Complete, Op, Run}
-use Rattle.guarantee.proofs.Lists.{Each, all-both, all-each, any-each, each-same}
+use Rattle.guarantee.specs.Log.{Complete, Op, Run, isOpen, isOpenAt, tally}
+use Rattle.guarantee.proofs.Lists.{Each, all-both, all-each, any-each, each-flip, each-same}
 use Rattle.guarantee.proofs.Tags.{key}
+use Rattle.guarantee.proofs.States.{both}
 use Rattle.guarantee.proofs.Boards.{Beside, BoardOk, beside-same}
 use Rattle.guarantee.proofs.Consoles.{waits}
 use Rattle.guarantee.proofs.Effects.{five}
-use Rattle.guarantee.proofs.Moves.{Above, Moves, OpOk, apart-moves}
-use Rattle.guarantee.proofs.Known.{Known}
+use Rattle.guarantee.proofs.Moves.{Above, Moves, OpOk, apart-moves, open-is}
+use Rattle.guarantee.proofs.Known.{Known, tally-le}
 
 -- two operations of the log
 pub record PairOk (σ : Setup) (b : Board) (x y : Op) : Type 0 where
@@ -45,6 +47,8 @@ pub record Inv (σ : Setup) (r : Run) : Type 0 where
   pub pairs : Pairs σ (r .board) (r .ops)
   -- Every waiting console has an operation open: it was begun, and what closes it ends the waiting.
   pub waits : (c : ℕ) → c < σ .m → isWaiting (consoleAt (r .board) c .state) ≡ true → Any (OpenAt c) (r .ops)
+  -- No console has two operations open: a begin finds its console idle, and no other step opens one.
+  pub alone : (c : ℕ) → tally (isOpenAt c) (r .ops) ≤ 1
   -- The nodes that are up are those that the log says: only node down and node up change either.
   pub ups : (j : ℕ) → j < σ .n → nodeAt (r .board) j .up ≡ r .up j
 
@@ -64,6 +68,13 @@ module _ {σ : Setup} {place : ℕ} {b b′ : Board} where
   pub open-move : (c : ℕ) → isWaiting (consoleAt b′ c .state) ≡ true → (x y : Op) → Moves σ place b b′ x y → OpenAt c x → OpenAt c y
   open-move c w x y mv o = (mv .stays (o .0) (rw (o .1) w), mv .same-console ∙ o .1)
 
+  -- what is open now was so before
+  open-before : (c : ℕ) (y x : Op) → Moves σ place b b′ x y → isOpenAt c y ≡ true → isOpenAt c x ≡ true
+  open-before c y x mv e = both (ap isOpen (mv .was-open (open-is (y .status) (and-left (isOpen (y .status)) _ e)))) (rw (mv .same-console) at (and-right (isOpen (y .status)) _ e))
+
+  pub alone-moves : {l r : List Op} → Each (Moves σ place b b′) l r → (c : ℕ) → tally (isOpenAt c) r ≤ tally (isOpenAt c) l
+  alone-moves es c = tally-le (isOpenAt c) (isOpenAt c) (open-before c) (each-flip es)
+
 -- ---- a step after which the log's operations have moved, and none has begun
 
 abbrev pub stepped : Run → Board → List Op → (ℕ → Bool) → Run
@@ -77,6 +88,7 @@ inv-step r b′ l u h k es w v = record {
   ops = all-each (λ x y mv _. mv .ok) es (h .ops);
   pairs = pairs-move es (h .ops) (h .pairs);
   waits = λ c cm z. any-each (open-move c z) es (h .waits c cm (w c cm z));
+  alone = λ c. omega (arith, h .alone c, alone-moves es c);
   ups = v;
 }
 

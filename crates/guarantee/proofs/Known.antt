@@ -12,7 +12,7 @@ use Rattle.parts.specs.declared.Setup.{Setup}
 use Rattle.parts.specs.declared.Tag.{Tag}
 use Rattle.board.specs.Boards.{consoleAt}
 use Rattle.board.specs.declared.Board.{Board}
-use Rattle.guarantee.specs.Claim.{All, Any, OpenAt, here, there}
+use Rattle.guarantee.specs.Claim.{_also_, All, Any, OpenAt, here, none, there}
 use Rattle.guarantee.specs.Log.{Op, tally}
 use Rattle.guarantee.proofs.Lists.{Each, any-all, link, no-more}
 use Rattle.guarantee.proofs.Sizes.{Allowed}
@@ -37,6 +37,11 @@ pub tally-lt : {R : Op → Op → Type 0} {P : Op → Type 0} (p q : Op → Bool
 unfolding tally
 tally-lt p q h s (link {x} {y} e es) (here z) = omega (arith, ap one (s x y e z .0), ap one (s x y e z .1), tally-le p q h es)
 tally-lt p q h s (link {x} {y} e es) (there z) = omega (arith, one-le (p x) (q y) (h x y e), tally-lt p q h s es z)
+
+pub tally-none : (p : Op → Bool) {l : List Op} → All (λ x. p x ≡ false) l → tally p l ≡ 0
+unfolding tally
+tally-none p none = refl
+tally-none p (e also es) = omega (arith, ap one e, tally-none p es)
 
 -- a write that has turned
 abbrev pub hasWritten : Op → Bool

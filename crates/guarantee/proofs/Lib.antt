@@ -1,4 +1,4 @@
--- The proof of demand 3, in the order in which the files build on each other.
+-- The proof of demand 3, in the order in which the files build on each other; then what holds of every step on every board.
 pub mod Lists
 pub mod Quorums
 pub mod Sets
@@ -8,6 +8,7 @@ pub mod States
 pub mod Shapes
 pub mod Views
 pub mod Rows
+pub mod Formed
 pub mod Boards
 pub mod Consoles
 pub mod Spent
@@ -24,4 +25,6 @@ pub mod Invariant
 pub mod StepsKeep
 pub mod Progress
 pub mod Theorem
+pub mod KeepsFormed
+pub mod Refusals
 pub mod ReachedHold

@@ -15,6 +15,10 @@ pub each-same : {A : Type 0} {R : A → A → Type 0} {P : A → Type 0} → ((x
 each-same h none = no-more
 each-same h (p also q) = link (h _ p) (each-same h q)
 
+pub each-flip : {A : Type 0} {R : A → A → Type 0} {l r : List A} → Each R l r → Each (λ x y. R y x) r l
+each-flip no-more = no-more
+each-flip (link e es) = link e (each-flip es)
+
 pub all-each : {A : Type 0} {R : A → A → Type 0} {P Q : A → Type 0} → ((x y : A) → R x y → P x → Q y) → {l r : List A} → Each R l r → All P l → All Q r
 all-each h no-more none = none
 all-each h (link e es) (p also q) = h _ _ e p also all-each h es q

@@ -55,11 +55,12 @@ pub record Moves (σ : Setup) (place : ℕ) (b b′ : Board) (x x′ : Op) : Typ
   pub above : (t : ℕ) → Above σ b x t → Above σ b′ x′ t
   -- a complete operation was so before, as it is, or ended now
   pub old : x′ .status ≡ Complete → ((x .status ≡ Complete) × (x′ .ended ≡ x .ended) × (x′ .tag ≡ x .tag)) ⊎ (x′ .ended ≡ place)
+  pub was-open : x′ .status ≡ Open → x .status ≡ Open
   pub stays : x .status ≡ Open → isWaiting (consoleAt b′ (x .console) .state) ≡ true → x′ .status ≡ Open
 
 -- ---- statuses
 
-open-is : (k : Status) → isOpen k ≡ true → k ≡ Open
+pub open-is : (k : Status) → isOpen k ≡ true → k ≡ Open
 open-is Open e = refl
 open-is Complete e = absurd (contra e refl)
 open-is Lost e = absurd (contra e refl)
@@ -95,6 +96,7 @@ apart-moves {σ} {c} {place} {b} {b′} x five s a h = record {
   same-wrote = refl;
   keeps = λ e. e;
   old = λ e. inl (e, refl, refl);
+  was-open = λ e. e;
   stays = λ e _. e;
   above = λ t g. record { while-open = λ e. floor-beside (x .console) t five s (a e) (g .while-open e); once-complete = g .once-complete };
   ok = record {
@@ -147,6 +149,7 @@ module _ {K : TagKind} {σ : Setup} {place : ℕ} {b b′ : Board} (x : Op) (e :
     keeps = λ q. q;
     above = λ t r. record { while-open = λ _. g .floor t (r .while-open e); once-complete = r .once-complete };
     old = λ q. absurd (open-complete e q);
+    was-open = λ _. e;
     stays = λ q _. q;
     ok = record {
       earlier = omega (arith, h .earlier);
@@ -177,6 +180,7 @@ module _ {K : TagKind} {σ : Setup} {place : ℕ} {b b′ : Board} (x : Op) (e :
     keeps = λ _. refl;
     above = λ t r. record { while-open = λ _. g .floor t (r .while-open e); once-complete = r .once-complete };
     old = λ q. absurd (open-complete e q);
+    was-open = λ _. e;
     stays = λ q _. q;
     ok = record {
       earlier = omega (arith, h .earlier);
@@ -210,6 +214,7 @@ module _ {K : TagKind} {σ : Setup} {place : ℕ} {b b′ : Board} (x : Op) (e :
     keeps = λ q. q;
     above = λ t r. record { while-open = λ q. absurd (open-complete q refl); once-complete = λ _. omega (arith, g .floor t (r .while-open e), ap one (h .writes e)) };
     old = λ _. inr refl;
+    was-open = λ _. e;
     stays = λ _ w. absurd (contra w (rw (g .idle)));
     ok = record {
       earlier = omega (arith, h .earlier);
@@ -254,6 +259,7 @@ down-moves {σ} {c} {place} {b} {b′} x five s w h = go (marked c losing x)
       keeps = λ p. p;
       above = λ t r. record { while-open = λ p. absurd (lost-open refl p); once-complete = λ p. absurd (lost-complete refl p) };
       old = λ p. absurd (lost-complete refl p);
+      was-open = λ _. e;
       stays = λ _ z. absurd (contra z (rw (q, w)));
       ok = record {
         earlier = omega (arith, h .earlier);

@@ -9,24 +9,32 @@ use native.Mathlib.Omega.{arith}
 use borrow.Author.Tests.{lt-ltb}
 use lib.Dec.{ltb}
 use Rattle.parts.proofs.FiniteLaws.{and-left}
+use Rattle.parts.specs.Outcomes.{accepted}
 use Rattle.parts.specs.AnsweredSet.{insert, member, size}
 use Rattle.parts.specs.Finite.{count}
 use Rattle.parts.specs.Limits.{maxTs}
 use Rattle.parts.specs.Parts.{isAsking, isNothing, isTelling, isWaiting, writes}
 use Rattle.parts.specs.Sizes.{askSize, tellSize}
+use Rattle.parts.specs.declared.Console.{Console}
 use Rattle.parts.specs.declared.Frame.{Frame}
 use Rattle.parts.specs.declared.Frame.the-variants.{Ack, Ask, Nothing, Put, Reply}
+use Rattle.parts.specs.declared.Node.{Node}
 use Rattle.parts.specs.declared.Setup.{Setup}
 use Rattle.parts.specs.declared.Tag.{Tag}
 use Rattle.changes.specs.Changes.{acked, awaits, hears, takesIn}
+use Rattle.changes.specs.Deliver.{acknowledged, delivered, discards, finished, finishesEarly, heard, isWithdrawn, onAck, onAsk, onFrame, onPut, onReply, replied, turned}
+use Rattle.changes.specs.Questions.{has-console, has-next-ts, has-node, holds-frame, is-well-formed, node-is-up}
+use Rattle.changes.specs.declared.Decision.{Decision}
+use Rattle.changes.specs.declared.Decision.the-variants.{Accept, Refuse}
 use Rattle.board.specs.Boards.{consoleAt, frameAt, nodeAt}
-use Rattle.board.specs.Deliver.{acknowledged, deliver, discards, finished, finishesEarly, heard, isWithdrawn, onAck, onAsk, onFrame, onPut, onReply, replied, toNode}
-use Rattle.board.specs.Questions.{has-console, has-next-ts, has-node, holds-frame, is-well-formed, node-is-up}
+use Rattle.board.specs.Applied.{applied}
+use Rattle.board.specs.Deliver.{deliver}
 use Rattle.board.specs.Runs.{Deliver, step}
+use Rattle.board.specs.WellFormed.{wellFormed}
 use Rattle.board.specs.declared.Answer.{Answer}
 use Rattle.board.specs.declared.Board.{Board}
 use Rattle.guarantee.specs.Claim.{_also_, HasDeliverable, none}
-use Rattle.guarantee.specs.Log.{Run, accepted, tally, writesBegun}
+use Rattle.guarantee.specs.Log.{Run, tally, writesBegun}
 use Rattle.guarantee.proofs.Lists.{any-all, each-same}
 use Rattle.guarantee.proofs.Quorums.{Differ, differ}
 use Rattle.guarantee.proofs.Sets.{size-count}
@@ -44,28 +52,41 @@ use Rattle.guarantee.proofs.Invariant.{Inv}
 abbrev Accepts : Answer → Type 0
 Accepts a = accepted (a .outcome) ≡ true
 
--- a frame is taken, unless its node is down or a write has met the limit
-frame-taken : (b : Board) (c k : ℕ) (f : Frame) → nodeAt b k .up ≡ true
-    → ((u : Tag) (v : ℕ) → f ≡ Reply u v → isAsking (consoleAt b c .state) ≡ true → writes (consoleAt b c .state) ≡ true → hears (consoleAt b c) k u v .best .ts < maxTs)
-    → Accepts (onFrame b c k f)
-unfolding onFrame onAsk onPut toNode onReply onAck replied acknowledged heard finished discards awaits hears takesIn acked
-frame-taken b c k Nothing up below = refl
-frame-taken b c k Ask up below = all-yes Accepts (node-is-up b k ∷ []) b (up also none) refl
-frame-taken b c k (Put u v) up below = all-yes Accepts (node-is-up b k ∷ []) b (up also none) refl
-frame-taken b c k (Reply u v) up below = split-but Accepts (isAsking (consoleAt b c .state)) (member (consoleAt b c .answered) k)
-    (λ p _. split Accepts (ltb (size (insert (consoleAt b c .answered) k)) (askSize (b .setup))) (λ _. refl)
-    (λ _. split Accepts (finishesEarly (b .setup) (hears (consoleAt b c) k u v)) (λ _. refl)
-    (λ _. all-yes Accepts (has-next-ts (hears (consoleAt b c) k u v) ∷ []) b
-    (implies-of (writes (consoleAt b c .state)) (ltb (hears (consoleAt b c) k u v .best .ts) maxTs) (λ w. lt-ltb (hears (consoleAt b c) k u v .best .ts) maxTs (below u v refl p w)) also none) refl)))
-    (λ _. refl)
-frame-taken b c k Ack up below = split-but Accepts (isTelling (consoleAt b c .state)) (member (consoleAt b c .answered) k)
-    (λ _ _. split Accepts (ltb (size (insert (consoleAt b c .answered) k)) (tellSize (b .setup))) (λ _. refl) (λ _. refl)) (λ _. refl)
+-- a decision that the board accepts
+abbrev Decides : Decision → Type 0
+Decides (Refuse r) = ⊥
+Decides (Accept d) = accepted (d .outcome) ≡ true
 
-deliver-taken : {σ : Setup} (b : Board) (c k : ℕ) → BoardOk (Good σ) σ b → c < σ .m → k < σ .n → isNothing (frameAt b c k) ≡ false → Accepts (onFrame b c k (frameAt b c k)) → Accepts (step b (Deliver c k))
-unfolding deliver discards step
-deliver-taken b c k h cm kn full t = all-yes Accepts (is-well-formed b ∷ has-console b c ∷ has-node b k ∷ holds-frame b c k ∷ []) b
+-- a frame is taken, unless its node is down or a write has met the limit
+frame-taken : (σ : Setup) (c k : ℕ) (x : Console) (y : Node) (f : Frame) → y .up ≡ true
+    → ((u : Tag) (v : ℕ) → f ≡ Reply u v → isAsking (x .state) ≡ true → writes (x .state) ≡ true → hears x k u v .best .ts < maxTs)
+    → Decides (onFrame σ c k x y f)
+unfolding onFrame onAsk onPut onReply onAck replied acknowledged heard finished turned discards awaits hears takesIn acked
+frame-taken σ c k x y Nothing up below = refl
+frame-taken σ c k x y Ask up below = all-yes Decides (node-is-up y ∷ []) Refuse (up also none) refl
+frame-taken σ c k x y (Put u v) up below = all-yes Decides (node-is-up y ∷ []) Refuse (up also none) refl
+frame-taken σ c k x y (Reply u v) up below = split-but Decides (isAsking (x .state)) (member (x .answered) k)
+    (λ p _. split Decides (ltb (size (insert (x .answered) k)) (askSize σ)) (λ _. refl)
+    (λ _. split Decides (finishesEarly σ (hears x k u v)) (λ _. refl)
+    (λ _. all-yes Decides (has-next-ts (hears x k u v) ∷ []) Refuse
+    (implies-of (writes (x .state)) (ltb (hears x k u v .best .ts) maxTs) (λ w. lt-ltb (hears x k u v .best .ts) maxTs (below u v refl p w)) also none) refl)))
+    (λ _. refl)
+frame-taken σ c k x y Ack up below = split-but Decides (isTelling (x .state)) (member (x .answered) k)
+    (λ _ _. split Decides (ltb (size (insert (x .answered) k)) (tellSize σ)) (λ _. refl) (λ _. refl)) (λ _. refl)
+
+-- the board answers as it was decided
+applied-taken : (b : Board) (c k : ℕ) (d : Decision) → Decides d → Accepts (applied b c k d)
+unfolding applied
+applied-taken b c k (Refuse r) t = absurd t
+applied-taken b c k (Accept d) t = t
+
+-- the delivery of a frame that is taken is accepted, and so is that of one that is withdrawn
+deliver-taken : {σ : Setup} (b : Board) (c k : ℕ) → BoardOk (Good σ) σ b → c < σ .m → k < σ .n → isNothing (frameAt b c k) ≡ false
+    → Decides (onFrame (b .setup) c k (consoleAt b c) (nodeAt b k) (frameAt b c k)) → Accepts (step b (Deliver c k))
+unfolding deliver delivered discards step
+deliver-taken b c k h cm kn full t = applied-taken b c k _ (all-yes Decides (is-well-formed (wellFormed b) ∷ has-console (b .setup) c ∷ has-node (b .setup) k ∷ holds-frame (frameAt b c k) ∷ []) Refuse
     (well-formed b h also lt-ltb c (b .setup .m) (omega (arith, m-is (h .shape))) also lt-ltb k (b .setup .n) (omega (arith, n-is (h .shape))) also (rw full) also none)
-    (split Accepts (isWithdrawn b c (frameAt b c k)) (λ _. refl) (λ _. t))
+    (split Decides (isWithdrawn (consoleAt b c) (frameAt b c k)) (λ _. refl) (λ _. t)))
 
 module _ {σ : Setup} (r : Run) (h : Inv σ r) (few : writesBegun r ≤ maxTs) where
   -- a write that still asks is not among those that have turned
@@ -112,5 +133,5 @@ module _ {σ : Setup} (r : Run) (h : Inv σ r) (few : writesBegun r ≤ maxTs) w
         d .0,
         d .1,
         deliver-taken b c (d .0) (board-up (λ t v q. q .good) (h .ok)) cm (d .1) (full (d .0) (d .1) (d .3))
-            (frame-taken b c (d .0) (frameAt b c (d .0)) (h .ups (d .0) (d .1) ∙ d .2) (under (d .0) (d .1))),
+            (frame-taken (b .setup) c (d .0) (consoleAt b c) (nodeAt b (d .0)) (frameAt b c (d .0)) (h .ups (d .0) (d .1) ∙ d .2) (under (d .0) (d .1))),
       )

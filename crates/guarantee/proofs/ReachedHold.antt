@@ -14,11 +14,14 @@ use Rattle.parts.specs.declared.Release.the-variants.{One, Two}
 use Rattle.parts.specs.declared.Setup.{Setup}
 use Rattle.checks.specs.Clauses.{cellOk, cellsOk, consoleOk, consolesAllowed, consolesOk, frameOk, isZero, markOk, nodeOk, nodesAllowed, nodesOk, restOk, rowOk, setupOk, stateOk, tagOk, waitOk, wantedOk}
 use Rattle.changes.specs.Changes.{acked, asks, awaits, hears, nextTag, rests, stillAlike, taken, takesIn, tells, withUp}
-use Rattle.board.specs.Answers.{guarded}
+use Rattle.changes.specs.Decisions.{begins, ends, falls, rises}
+use Rattle.changes.specs.Deliver.{acknowledged, delivered, discards, finished, finishesEarly, heard, onAck, onAsk, onFrame, onPut, onReply, replied, turned}
+use Rattle.changes.specs.Questions.{guarded}
 use Rattle.board.specs.Boards.{consoleAt, frameAt, freshBoard, nodeAt, withConsole, withFrame, withNode, withRow}
-use Rattle.board.specs.Deliver.{acknowledged, deliver, discards, finished, finishesEarly, heard, onAck, onAsk, onFrame, onPut, onReply, replied, toNode, turned}
+use Rattle.board.specs.Applied.{applied, withPart, withSent}
+use Rattle.board.specs.Deliver.{deliver}
 use Rattle.board.specs.Runs.{Step, step}
-use Rattle.board.specs.Steps.{begin, begun, consoleDown, fresh, nodeDown, nodeUp, setupOf}
+use Rattle.board.specs.Steps.{begin, consoleDown, fresh, nodeDown, nodeUp, setupOf}
 use Rattle.board.specs.WellFormed.{wellFormed}
 use Rattle.guarantee.specs.Claim.{HasDeliverable, here}
 use Rattle.guarantee.specs.Log.{Run, after, next, noted, ofConsole, run, start, tally, upAfter, writesBegun}
@@ -27,7 +30,7 @@ use Rattle.guarantee.proofs.Theorem.{demand-3}
 
 -- a run with every definition opened
 whole : Setup → List Step → Run
-unfolding run start after next noted upAfter ofConsole every count greater compared member insert size onlyBelow majority askSize tellSize nodeIn consoleIn frameIn place setFrame setRow nodesAllowed consolesAllowed setupOk isZero tagOk nodeOk nodesOk restOk wantedOk waitOk stateOk markOk consoleOk consolesOk frameOk cellOk rowOk cellsOk withUp taken rests asks awaits stillAlike hears takesIn nextTag tells acked nodeAt consoleAt frameAt withNode withConsole withFrame withRow freshBoard wellFormed guarded fresh begun begin nodeDown nodeUp consoleDown toNode onAsk onPut discards heard finished finishesEarly turned replied onReply acknowledged onAck onFrame deliver step
+unfolding run start after next noted upAfter ofConsole every count greater compared member insert size onlyBelow majority askSize tellSize nodeIn consoleIn frameIn place setFrame setRow nodesAllowed consolesAllowed setupOk isZero tagOk nodeOk nodesOk restOk wantedOk waitOk stateOk markOk consoleOk consolesOk frameOk cellOk rowOk cellsOk withUp taken rests asks awaits stillAlike hears takesIn nextTag tells acked nodeAt consoleAt frameAt withNode withConsole withFrame withRow freshBoard wellFormed guarded begins ends falls rises fresh begin nodeDown nodeUp consoleDown onAsk onPut discards heard finished turned finishesEarly replied onReply acknowledged onAck onFrame delivered withSent withPart applied deliver step
 whole σ ss = run σ ss
 
 p4-reaches : whole (setupOf 3 2 One) p4-steps .ops ≡ p4-log

@@ -18,15 +18,16 @@ use Rattle.parts.specs.declared.Outcome.the-variants.{Heard, Turned}
 use Rattle.parts.specs.declared.Setup.{Setup}
 use Rattle.parts.specs.declared.Tag.{Tag}
 use Rattle.changes.specs.Changes.{hears, nextTag, tells}
+use Rattle.changes.specs.Deliver.{finishesEarly}
 use Rattle.board.specs.Answers.{answerWith}
 use Rattle.board.specs.Boards.{consoleAt, frameAt, nodeAt, withConsole, withFrame, withRow}
-use Rattle.board.specs.Deliver.{finished, finishesEarly, turned}
 use Rattle.board.specs.declared.Board.{Board}
 use Rattle.guarantee.proofs.Sets.{insert-small}
 use Rattle.guarantee.proofs.Tags.{Small, key}
 use Rattle.guarantee.proofs.Sizes.{tell-le-ask}
 use Rattle.guarantee.proofs.States.{ask-size-for, asking-waits, turns}
 use Rattle.guarantee.proofs.Shapes.{console-same, row-beyond, row-same, shape-row}
+use Rattle.guarantee.proofs.Views.{finished, turned}
 use Rattle.guarantee.proofs.Rows.{RowOk, early-held, heard-all, heard-backed, heard-floor, heard-row, turned-floor, turned-row}
 use Rattle.guarantee.proofs.Boards.{Beside, BoardOk, Passes, TagKind, beside-console, beside-row, beside-trans, kept, same-floor, same-row, tags}
 use Rattle.guarantee.proofs.Consoles.{WaitsOk, asking-zero, console-state, hears-kind, hears-ok, tells-kind, tells-ok}

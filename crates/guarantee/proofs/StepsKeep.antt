@@ -1,11 +1,13 @@
 -- Each of the six kinds of step keeps the invariant, and so does every run.
-use Prim.Native.Nat.{ℕ, _+_, _<_}
-use mathlib.Core.Bool.{Bool, true, false, cond}
+use Prim.Native.Nat.{ℕ, _+_, _≤_, _<_}
+use mathlib.Core.Bool.{Bool, true, false, cond, _&&_}
 use mathlib.Core.List.{List, map, _∷_, []}
 use mathlib.Core.Path.{refl, sym, ap, _≡_, _∙_}
 use native.Mathlib.Omega.{arith}
 use borrow.Author.Tests.{eqb-true, eqb-false}
 use lib.Dec.{eqb}
+use Rattle.parts.specs.Finite.{one}
+use Rattle.parts.specs.Outcomes.{accepted}
 use Rattle.parts.specs.Parts.{isTelling, isWaiting, isWrite}
 use Rattle.parts.specs.declared.Console.{Console}
 use Rattle.parts.specs.declared.Kind.{Kind}
@@ -18,24 +20,24 @@ use Rattle.checks.specs.Clauses.{wantedOk}
 use Rattle.changes.specs.Changes.{hears, nextTag, rests, withUp}
 use Rattle.board.specs.Boards.{consoleAt, freshBoard, nodeAt, withConsole, withNode}
 use Rattle.board.specs.Runs.{BeginRead, BeginWrite, ConsoleDown, Deliver, NodeDown, NodeUp, Step, step}
-use Rattle.board.specs.Steps.{begun, fresh}
+use Rattle.board.specs.Steps.{fresh}
 use Rattle.board.specs.declared.Answer.{Answer}
 use Rattle.board.specs.declared.Board.{Board}
 use Rattle.guarantee.specs.Claim.{_also_, Any, OpenAt, here, none, there}
-use Rattle.guarantee.specs.Log.{Op, Run, accepted, after, delivering, follow, losing, next, noted, ofConsole, opened, start, upAfter}
+use Rattle.guarantee.specs.Log.{Op, Run, after, delivering, follow, isOpen, isOpenAt, losing, next, noted, ofConsole, opened, start, tally, upAfter}
 use Rattle.guarantee.proofs.Lists.{Each, all-each, all-imp, any-each, each-map}
 use Rattle.guarantee.proofs.Tags.{key}
 use Rattle.guarantee.proofs.Sizes.{Allowed}
 use Rattle.guarantee.proofs.States.{asking-waits, contra, turns}
 use Rattle.guarantee.proofs.Shapes.{m-is, n-is}
-use Rattle.guarantee.proofs.Views.{Begun, Consoles-down, Ranged, Switched, begins, consoles-down, delivered, did-begin, did-console, did-node, fresh-made, no-begin, no-console, no-node, nodes-down, nodes-up}
+use Rattle.guarantee.proofs.Views.{Begun, Consoles-down, Ranged, Switched, begins, begun, consoles-down, delivered, did-begin, did-console, did-node, fresh-made, no-begin, no-console, no-node, nodes-down, nodes-up}
 use Rattle.guarantee.proofs.Boards.{BoardOk, Good, TagKind, beside-console, board-up}
 use Rattle.guarantee.proofs.Consoles.{Fair, hears-kind, next-good}
 use Rattle.guarantee.proofs.Effects.{Own, ends-now, goesOn, going, reply-kind, turns-now}
 use Rattle.guarantee.proofs.Deliveries.{Chooses, StepEffect, deliver-effect, effect, effect-ok, refusal}
 use Rattle.guarantee.proofs.Starts.{Begins, begin-effect, down-ok, down-state, down-ups, fresh-console, fresh-node, fresh-ok, node-ok, node-side, node-ups}
-use Rattle.guarantee.proofs.Moves.{Moves, OpOk, deliver-moves, down-moves, open-complete}
-use Rattle.guarantee.proofs.Known.{Known, good-fair, known-cons, known-fair, known-moves, more-written}
+use Rattle.guarantee.proofs.Moves.{Moves, OpOk, deliver-moves, down-moves, open-complete, open-is}
+use Rattle.guarantee.proofs.Known.{Known, good-fair, known-cons, known-fair, known-moves, more-written, tally-none}
 use Rattle.guarantee.proofs.Invariant.{Inv, all-apart, inv-refused, inv-step, open-move, pairs-move, stepped, waits-beside}
 
 -- ---- deliver
@@ -100,6 +102,7 @@ module _ {σ : Setup} (r : Run) (h : Inv σ r) where
   inv-begin : (s : Step) (c : ℕ) (w : Kind) (v : ℕ) → wantedOk w v ≡ true → {a : Answer} → Begun (r .board) c w v a
       → ((o : Outcome) → noted (r .place) s o (r .ops) ≡ opened (r .place) c (isWrite w) ∷ r .ops) → upAfter s (r .up) ≡ r .up
       → Inv σ (follow r s a)
+  unfolding tally
   inv-begin s c w v good no-begin q z = inv-refused r h
   inv-begin s c w v good (did-begin l p) q z = rw (q Done, z) (record {
     ok = board-up (known-cons new) (g .ok);
@@ -107,6 +110,7 @@ module _ {σ : Setup} (r : Run) (h : Inv σ r) where
     pairs = (record { above = λ e _. absurd (open-complete refl e) } also all-imp (λ x k. record { above = λ e _. record { while-open = λ _. g .floor (key (x .tag)) (k .held e); once-complete = λ q. absurd (open-complete refl q) } }) (h .ops))
         also all-imp (λ y q. record { above = λ e _. absurd (open-complete refl e) } also q) (pairs-move es (h .ops) (h .pairs));
     waits = λ d dm z. wait d dm z (eqb d c) refl;
+    alone = λ d. lone d (eqb c d) refl;
     ups = λ j l. g .ups j ∙ h .ups j l;
   })
     where
@@ -140,6 +144,19 @@ module _ {σ : Setup} (r : Run) (h : Inv σ r) where
       wait : (d : ℕ) → d < σ .m → isWaiting (consoleAt (begun (r .board) c w v) d .state) ≡ true → (x : Bool) → eqb d c ≡ x → Any (OpenAt d) (new ∷ r .ops)
       wait d dm z true e = here (refl, sym (eqb-true d c e))
       wait d dm z false e = there (any-each (open-move d z) es (h .waits d dm (rw (g .beside .console d (eqb-false d c e)) at z)))
+
+      -- console c was idle, so none of its operations was open
+      shut : (x : Op) → OpOk σ (r .place) (r .board) x → isOpenAt c x ≡ false
+      shut x k = go (isOpen (x .status)) refl (eqb (x .console) c) refl
+        where
+          go : (y : Bool) → isOpen (x .status) ≡ y → (z : Bool) → eqb (x .console) c ≡ z → (y && z) ≡ false
+          go true e true f = absurd (contra (k .waits (open-is (x .status) e)) (rw (eqb-true (x .console) c f, p)))
+          go true e false f = refl
+          go false e z f = refl
+
+      lone : (d : ℕ) (x : Bool) → eqb c d ≡ x → tally (isOpenAt d) (new ∷ r .ops) ≤ 1
+      lone d true e = omega (arith, ap one e, tally-none (isOpenAt d) (rw (eqb-true c d e) at (all-imp shut (h .ops))))
+      lone d false e = omega (arith, ap one e, h .alone d)
 
   -- ---- the downs and the ups
 
@@ -198,12 +215,13 @@ inv-after [] r h = h
 inv-after (s ∷ ss) r h = inv-after ss (next r s) (inv-next r h s)
 
 pub inv-start : (σ : Setup) → Allowed σ → Inv σ (start σ)
-unfolding start
+unfolding start tally
 inv-start σ al = record {
   ok = rw made (fresh-ok σ (known-fair σ [] al) al);
   ops = none;
   pairs = none;
   waits = λ c l w. absurd (contra w (rw (made, fresh-console σ c)));
+  alone = λ c. omega arith;
   ups = λ j l. rw (made, fresh-node σ j);
 }
   where

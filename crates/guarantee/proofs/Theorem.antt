@@ -2,7 +2,6 @@
 use Prim.Native.Nat.{ℕ, max, _+_, _*_, _≤_}
 use mathlib.Core.Path.{ap, _≡_, _∙_}
 use native.Mathlib.Omega.{arith}
-use borrow.Author.Tests.{lt-ltb, le-ltb}
 use Rattle.parts.specs.Finite.{one}
 use Rattle.parts.specs.Parts.{place}
 use Rattle.parts.specs.Sizes.{askSize, majority, tellSize}
@@ -11,7 +10,7 @@ use Rattle.board.specs.declared.Board.{Board}
 use Rattle.guarantee.specs.Claim.{Claim, Demand3, FinishedBefore, Fresher, HasOpen, Waits, maxWrites}
 use Rattle.guarantee.specs.Log.{Op, Run, after, run, start, writesBegun}
 use Rattle.guarantee.proofs.Lists.{all-both, all-imp, any-all, any-get}
-use Rattle.guarantee.proofs.Tags.{greater-key, key}
+use Rattle.guarantee.proofs.Tags.{higher-of-key, key, lower-not-higher}
 use Rattle.guarantee.proofs.Spent.{most}
 use Rattle.guarantee.proofs.Moves.{OpOk}
 use Rattle.guarantee.proofs.Invariant.{Inv, PairOk}
@@ -22,8 +21,8 @@ use Rattle.guarantee.proofs.Progress.{progress}
 fresh-pair : {σ : Setup} {place : ℕ} {b : Board} (x y : Op) → OpOk σ place b x → OpOk σ place b y → PairOk σ b x y → FinishedBefore x y → Fresher x y
 fresh-pair x y hx hy p f =
     let q : key (x .tag) + one (y .wrote) ≤ key (y .tag) = p .above (f .0) (f .2) .once-complete (f .1) in (
-      greater-key (x .tag) (y .tag) (hx .small (f .0)) (hy .small (f .1)) ∙ le-ltb (key (y .tag)) (key (x .tag)) (omega arith),
-      λ w. greater-key (y .tag) (x .tag) (hy .small (f .1)) (hx .small (f .0)) ∙ lt-ltb (key (x .tag)) (key (y .tag)) (omega (arith, ap one w)),
+      lower-not-higher (x .tag) (y .tag) (hy .small (f .1)) (omega arith),
+      λ w. higher-of-key (y .tag) (x .tag) (hy .small (f .1)) (hx .small (f .0)) (omega (arith, ap one w)),
     )
 
 -- the bound as demand 3 has it, and document 01's majority
@@ -43,6 +42,7 @@ module _ (σ : Setup) (r : Run) (h : Inv σ r) where
   claimed few = record {
     open-waits = open-waiting;
     waits-open = λ c w. h .waits c (w .0) (w .1);
+    one-open = h .alone;
     progress = λ up c o. progress r h few (omega (arith, up, larger-is σ)) c (open-waiting c o .0) (open-waiting c o .1);
     bound = all-imp (λ x k. omega (arith, k .bound, most-is σ)) (h .ops);
     freshness = all-imp (λ y q. all-imp (λ x z. fresh-pair x y (z .0) (q .0) (z .1)) (all-both (h .ops) (q .1))) (all-both (h .ops) (h .pairs));

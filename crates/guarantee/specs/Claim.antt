@@ -3,16 +3,18 @@
 use Prim.Native.Nat.{ℕ, _+_, _*_, _≤_, _<_}
 use mathlib.Core.Bool.{true, false}
 use mathlib.Core.List.{List, [], _∷_}
+use mathlib.Core.Logic.{_⊎_}
 use mathlib.Core.Path.{_≡_}
 use Rattle.parts.specs.Finite.{count}
-use Rattle.parts.specs.Tags.{greater}
+use Rattle.parts.specs.Outcomes.{accepted}
 use Rattle.parts.specs.Limits.{maxNodes, maxConsoles}
 use Rattle.parts.specs.Sizes.{majority}
 use Rattle.parts.specs.Parts.{isWaiting}
 use Rattle.parts.specs.declared.Setup.{Setup}
+use Rattle.parts.specs.declared.Tag.{Tag}
 use Rattle.board.specs.Boards.{consoleAt}
 use Rattle.board.specs.Runs.{Step, Deliver, step}
-use Rattle.guarantee.specs.Log.{Op, Open, Complete, accepted, Run, run, writesBegun}
+use Rattle.guarantee.specs.Log.{Op, Open, Complete, Run, isOpenAt, run, tally, writesBegun}
 
 -- each member of the list, and some member
 pub data All {A : Type 0} (P : A → Type 0) : List A → Type 0 where
@@ -45,15 +47,22 @@ HasDeliverable σ r c = (k : ℕ) × (k < σ .n) × (accepted (step (r .board) (
 abbrev pub FinishedBefore : Op → Op → Type 0
 FinishedBefore x y = (x .status ≡ Complete) × (y .status ≡ Complete) × (x .ended < y .began)
 
+-- the paper's own order, written out: the claim does not go by the register's test of tags. 'Tag a is greater than tag b if its ts is
+-- greater, or the ts are equal and its console number is greater'
+abbrev pub Higher : Tag → Tag → Type 0
+Higher a b = (b .ts < a .ts) ⊎ ((a .ts ≡ b .ts) × (b .console < a .console))
+
 -- y's final tag is no lower than x's, and higher if y wrote
 abbrev pub Fresher : Op → Op → Type 0
-Fresher x y = (greater (x .tag) (y .tag) ≡ false) × (y .wrote ≡ true → greater (y .tag) (x .tag) ≡ true)
+Fresher x y = (Higher (x .tag) (y .tag) → ⊥) × (y .wrote ≡ true → Higher (y .tag) (x .tag))
 
 -- σ has n, m and the release; no rule speaks of the release
 pub record Demand3 (σ : Setup) (r : Run) : Type 0 where
   -- 'The consoles with an operation open are exactly the waiting ones'
   pub open-waits : (c : ℕ) → HasOpen r c → Waits σ r c
   pub waits-open : (c : ℕ) → Waits σ r c → HasOpen r c
+  -- and no console has two
+  pub one-open : (c : ℕ) → tally (isOpenAt c) (r .ops) ≤ 1
   -- 'every console with an operation open has a frame that can be delivered, if a majority of the machines is up'; 'the
   -- progress rule's majority is now q or more machines up at the list's end'
   pub progress : majority (σ .n) ≤ count (σ .n) (r .up) → (c : ℕ) → HasOpen r c → HasDeliverable σ r c

@@ -7,6 +7,7 @@ use lib.Dec.{eqb}
 use Rattle.parts.specs.declared.Setup.{Setup}
 use Rattle.parts.specs.declared.Tag.{Tag}
 use Rattle.parts.specs.Finite.{one}
+use Rattle.parts.specs.Outcomes.{accepted}
 use Rattle.parts.specs.Tags.{zeroTag}
 use Rattle.board.specs.declared.Board.{Board}
 use Rattle.parts.specs.declared.Outcome.{Outcome}
@@ -42,16 +43,6 @@ pub record Op : Type 0 where
   pub tag : Tag
   pub value : ℕ
 
--- 'A step is accepted if it is not refused'
-abbrev pub accepted : Outcome → Bool
-accepted Refused = false
-accepted Done = true
-accepted Handed = true
-accepted Heard = true
-accepted Turned = true
-accepted (Finished t v) = true
-accepted Discarded = true
-
 -- ---- what an accepted step at place i does to an operation
 
 -- 'An operation begins with an accepted begin'
@@ -84,9 +75,13 @@ delivering i Turned x = turning x
 delivering i (Finished t v) x = finishing i t v x
 delivering i Discarded x = counted x
 
+-- the operation is open, and console c's
+abbrev pub isOpenAt : ℕ → Op → Bool
+isOpenAt c x = isOpen (x .status) && eqb (x .console) c
+
 -- the open operation of console c changes, all others stay
 unfoldable pub ofConsole : ℕ → (Op → Op) → Op → Op
-ofConsole c f x = cond (isOpen (x .status) && eqb (x .console) c) (f x) x
+ofConsole c f x = cond (isOpenAt c x) (f x) x
 
 -- ---- what an accepted step at place i does to the log, newest operation first
 

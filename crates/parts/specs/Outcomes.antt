@@ -1,11 +1,23 @@
--- What an outcome says in document 01's numbers: its number, its tag and its value. And the number of a comparison.
+-- Whether a step with this outcome is accepted, and what an outcome says in document 01's numbers: its number, its tag and its value. And the
+-- number of a comparison.
 use Prim.Native.Nat.{ℕ}
+use mathlib.Core.Bool.{Bool, true, false}
 use Rattle.parts.specs.declared.Tag.{Tag}
 use Rattle.parts.specs.declared.Outcome.{Outcome}
 use Rattle.parts.specs.declared.Outcome.the-variants.{Refused, Done, Handed, Heard, Turned, Finished, Discarded}
 use Rattle.parts.specs.declared.Compared.{Compared}
 use Rattle.parts.specs.declared.Compared.the-variants.{None, Lower, Same, Higher}
 use Rattle.parts.specs.Tags.{zeroTag}
+
+-- 'A step is accepted if it is not refused': by this go the log of a run, schedules, calls and lists
+abbrev pub accepted : Outcome → Bool
+accepted Refused = false
+accepted Done = true
+accepted Handed = true
+accepted Heard = true
+accepted Turned = true
+accepted (Finished t v) = true
+accepted Discarded = true
 
 -- 'Outcomes are written 0 refused, 1 done, 2 handed, 3 heard, 4 turned, 5 finished, 6 discarded'
 abbrev pub outcomeNumber : Outcome → ℕ

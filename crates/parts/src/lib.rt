@@ -111,6 +111,7 @@ pub enum Compared {
 pub mod answered;
 pub mod cases;
 pub mod cells;
+pub mod consoles;
 pub mod nodes;
 pub mod order;
 pub mod outcomes;

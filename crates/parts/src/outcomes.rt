@@ -1,6 +1,6 @@
-// What an outcome says in document 01's numbers, and a comparison as a number.
+// Whether an outcome is that of an accepted step, what it says in document 01's numbers, and a comparison as a number.
 ghost use mathlib.Core.Path.{_≡_};
-ghost use Rattle.parts.specs.Outcomes.{outcomeNumber, outcomeTag, outcomeValue, comparedNumber};
+ghost use Rattle.parts.specs.Outcomes.{accepted, outcomeNumber, outcomeTag, outcomeValue, comparedNumber};
 use crate::Compared;
 use crate::Outcome;
 use crate::Tag;
@@ -8,6 +8,21 @@ use crate::Tag;
 const ZERO: Tag = Tag { ts: 0, console: 0 };
 
 impl Outcome {
+    // Whether the step was accepted: not refused.
+    pub fn is_accepted(self) -> bool
+        ensures { λ r. ⌜ r ≡ accepted self ⌝ }
+    {
+        match self {
+            Outcome::Refused => false,
+            Outcome::Done => true,
+            Outcome::Handed => true,
+            Outcome::Heard => true,
+            Outcome::Turned => true,
+            Outcome::Finished(_, _) => true,
+            Outcome::Discarded => true,
+        }
+    }
+
     // The number that an outcome is written as.
     pub fn number(self) -> u32
         ensures { λ r. ⌜ r ≡ outcomeNumber self ⌝ }

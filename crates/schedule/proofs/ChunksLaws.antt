@@ -9,7 +9,7 @@ use lib.Dec.{eqb}
 use lib.ListN.{length, take, drop, getD, length-take, length-drop, length-append}
 use lib.Seq.{take-all, take-length, take-suc, take-add, sets}
 use Rattle.board.specs.declared.Board.{Board}
-use Rattle.board.specs.Answers.{guarded}
+use Rattle.changes.specs.Questions.{guarded}
 use Rattle.board.specs.Boards.{freshBoard}
 use Rattle.board.specs.Steps.{smallest, fresh}
 use Rattle.checks.specs.Clauses.{nodesAllowed, consolesAllowed}
@@ -136,30 +136,47 @@ module _ (s : Session) (chunk : List ℕ) (i j : ℕ) (le : i ≤ j) where
       ∙ sym (text-append s (take i chunk) (part i j chunk))
       ∙ ap (textOf s) parts-join
 
+  length-join : length (take i chunk) + length (part i j chunk) ≡ length (take j chunk)
+  length-join = sym (length-append (take i chunk) (part i j chunk)) ∙ ap length parts-join
+
 -- the bytes up to i taken, and then those up to j
 pub taken-more : (s : Rack) (line out chunk : List ℕ) (i j : ℕ) → i ≤ j → (x y : Rack) (line' out' line'' out'' : List ℕ)
-    → Taken 0 s line out (take i chunk) x line' out' → Taken (x .wrote) x line' out' (part i j chunk) y line'' out'' → Taken 0 s line out (take j chunk) y line'' out''
+    → Taken 0 0 s line out (take i chunk) x line' out' → Taken (x .took) (x .wrote) x line' out' (part i j chunk) y line'' out'' → Taken 0 0 s line out (take j chunk) y line'' out''
 taken-more s line out chunk i j le x y line' out' line'' out'' t u =
     let first : List ℕ = textOf (sessionOf s line) (take i chunk) in
     let then : List ℕ = textOf (sessionOf x line') (part i j chunk) in
     let both = text-more (sessionOf s line) chunk i j le (sessionOf x line') (t .session) in
+    let stands = after-more (sessionOf s line) chunk i j le (sessionOf x line') (t .session) in
     record {
-      session = u .session ∙ after-more (sessionOf s line) chunk i j le (sessionOf x line') (t .session);
+      session = u .session ∙ stands;
+      held = u .held ∙ ap (λ (z : Session). length (z .held)) stands;
+      took = omega (arith, u .took, t .took, length-join (sessionOf s line) chunk i j le);
       written = u .written ∙ ap (λ (o : List ℕ). sets o (x .wrote) then) (t .written) ∙ sets-sets out 0 (x .wrote) first then (t .wrote) ∙ ap (sets out 0) both;
       wrote = omega (arith, u .wrote, t .wrote, ap length both, length-append first then);
       room = u .room;
     }
 
 -- by another name for the rack and for the bytes
-pub taken-as : (s t : Rack) (line out c d : List ℕ) (r : Rack) (line' out' : List ℕ) → sessionOf t line ≡ sessionOf s line → c ≡ d → Taken 0 t line out c r line' out' → Taken 0 s line out d r line' out'
+pub taken-as : (s t : Rack) (line out c d : List ℕ) (r : Rack) (line' out' : List ℕ) → sessionOf t line ≡ sessionOf s line → c ≡ d → Taken 0 0 t line out c r line' out' → Taken 0 0 s line out d r line' out'
 taken-as s t line out c d r line' out' e f u =
     let text = ap (λ (z : Session). textOf z c) e ∙ ap (textOf (sessionOf s line)) f in
+    let stands = ap (λ (z : Session). afterBytes z c) e ∙ ap (afterBytes (sessionOf s line)) f in
     record {
-      session = u .session ∙ ap (λ (z : Session). afterBytes z c) e ∙ ap (afterBytes (sessionOf s line)) f;
+      session = u .session ∙ stands;
+      held = u .held ∙ ap (λ (z : Session). length (z .held)) stands;
+      took = omega (arith, u .took, ap length f);
       written = u .written ∙ ap (sets out 0) text;
       wrote = omega (arith, u .wrote, ap length text);
       room = u .room;
     }
+
+-- as many bytes are held as the line's beginning has, if it is no longer than the line
+pub held-is : (n : ℕ) (line l : List ℕ) → take n line ≡ l → n ≤ length line → n ≡ length l
+held-is n line l e le = omega (arith, length-take n line, ap length e)
+
+-- as many bytes are taken as the part has
+pub part-length : (chunk : List ℕ) (i j : ℕ) → i ≤ j → j ≤ length chunk → j ≡ i + length (part i j chunk)
+part-length chunk i j le inside = omega (arith, length-take (j - i) (drop i chunk), length-drop i chunk)
 
 -- ---- the beginning and the end
 

@@ -2,7 +2,6 @@
 use Prim.Native.Nat.{ℕ, _+_, _-_, _^_, min}
 use mathlib.Core.Bool.{cond}
 use mathlib.Core.List.{List, [], _∷_, _++_}
-use lib.Dec.{eqb}
 use Rattle.board.specs.declared.Answer.{Answer}
 use Rattle.board.specs.declared.Board.{Board}
 use Rattle.board.specs.Answers.{refuse}
@@ -11,7 +10,7 @@ use Rattle.board.specs.Steps.{smallest}
 use Rattle.lines.specs.declared.Line.{Line}
 use Rattle.lines.specs.declared.Line.the-variants.{TooLong, NotThree, Numbers}
 use Rattle.lines.specs.Lines.{lineOf}
-use Rattle.parts.specs.Outcomes.{outcomeNumber, outcomeTag, outcomeValue}
+use Rattle.parts.specs.Outcomes.{accepted, outcomeNumber, outcomeTag, outcomeValue}
 use Rattle.split.specs.Split.{linesOf}
 use Rattle.text.specs.declared.Row.{Row}
 use Rattle.text.specs.Text.{lineText}
@@ -20,8 +19,8 @@ use Rattle.verbs.specs.Verbs.{stepOf}
 -- 'It refuses a line over 64 bytes with 13, then one that is not three such fields with 11, then an unknown verb with 12
 -- [stepOf], all before document 01's questions'
 unfoldable pub answerOf : Line → Board → Answer
-answerOf TooLong b = refuse 13 b
-answerOf NotThree b = refuse 11 b
+answerOf TooLong b = refuse b 13
+answerOf NotThree b = refuse b 11
 answerOf (Numbers v x y) b = stepOf v x y b
 
 -- the answer to a line
@@ -30,7 +29,7 @@ answerTo line b = answerOf (lineOf line) b
 
 -- 'A refused line changes nothing': not even a refused fresh, whose answer holds another board
 unfoldable pub boardAfter : Board → Answer → Board
-boardAfter b a = cond (eqb (a .refusal) 0) (a .board) b
+boardAfter b a = cond (accepted (a .outcome)) (a .board) b
 
 -- 'Each output line has line number, refusal or 0, outcome, ts, console, value; the last three are 0 unless finished': of any
 -- other outcome the tag is (0, 0) and the value 0

@@ -3,6 +3,7 @@ ghost use mathlib.Core.Path.{_≡_};
 ghost use Prim.Native.Nat.{_+_, _*_, _<_, _≤_};
 ghost use lib.ListN.{length, take};
 ghost use lib.Seq.{sets};
+ghost use Rattle.board.specs.WellFormed.{wellFormed};
 ghost use Rattle.split.specs.Split.{heldBytes};
 ghost use Rattle.text.specs.Text.{lineBytes};
 ghost use Rattle.schedule.specs.Chunks.{startRack, sessionOf, part, lastText, Taken};
@@ -18,11 +19,12 @@ use split::least;
 use text::LINE_BYTES;
 
 // Takes the next line of the chunk, or what there is of it. The caller has seen that there is a byte left, that the line held has
-// its 66 bytes, and that an output line has room.
-fn take_line(s: Rack, line: &mut [u8], chunk: &[u8], out: &mut [u8]) -> Rack
+// its 66 bytes, and that an output line has room, and knows whether the board is well formed.
+fn take_line(s: Rack, formed: bool, line: &mut [u8], chunk: &[u8], out: &mut [u8]) -> Rack
     requires { ⌜ (s .took < length (now chunk)) × (length (now line) ≡ heldBytes) × (s .held ≤ heldBytes) × (s .wrote + lineBytes ≤ length (now out)) ⌝ }
+    requires { ⌜ formed ≡ wellFormed (s .board) ⌝ }
     ensures { λ r. ⌜ (s .took < r .took) × (r .took ≤ length (now (chunk .entry))) × (r .held ≤ heldBytes) × (r .wrote ≤ s .wrote + lineBytes) ⌝ }
-    ensures { λ r. ⌜ Taken (s .wrote) s (now (line .entry)) (now (out .entry)) (part (s .took) (r .took) (now (chunk .entry))) r (now (line .exit)) (now (out .exit)) ⌝ }
+    ensures { λ r. ⌜ Taken (s .took) (s .wrote) s (now (line .entry)) (now (out .entry)) (part (s .took) (r .took) (now (chunk .entry))) r (now (line .exit)) (now (out .exit)) ⌝ }
 {
     let at = s.took;
     let e = find(chunk, at, chunk.len(), b'\n');
@@ -38,7 +40,7 @@ fn take_line(s: Rack, line: &mut [u8], chunk: &[u8], out: &mut [u8]) -> Rack
         };
     }
     let k = chopped(line, held);
-    let ran = run_line(s.board, s.number, &line[..k], out, s.wrote);
+    let ran = run_line(s.board, formed, s.number, &line[..k], out, s.wrote);
     let b = ran.board;
     Rack {
         board: b,
@@ -50,10 +52,10 @@ fn take_line(s: Rack, line: &mut [u8], chunk: &[u8], out: &mut [u8]) -> Rack
 }
 
 // Takes the whole chunk. The caller has seen that the line held has its 66 bytes, and that the output has room for a line at every
-// byte.
+// byte. Question 1 is asked once: a well-formed board stays so. If it is not, a line may still make a fresh one.
 fn take_all(s: Rack, line: &mut [u8], chunk: &[u8], out: &mut [u8]) -> Rack
     requires { ⌜ (length (now line) ≡ heldBytes) × (s .held ≤ heldBytes) × (length (now chunk) * lineBytes ≤ length (now out)) ⌝ }
-    ensures { λ r. ⌜ Taken 0 s (now (line .entry)) (now (out .entry)) (now (chunk .entry)) r (now (line .exit)) (now (out .exit)) ⌝ }
+    ensures { λ r. ⌜ Taken 0 0 s (now (line .entry)) (now (out .entry)) (now (chunk .entry)) r (now (line .exit)) (now (out .exit)) ⌝ }
 {
     let b = s.board;
     let mut r = Rack {
@@ -63,8 +65,13 @@ fn take_all(s: Rack, line: &mut [u8], chunk: &[u8], out: &mut [u8]) -> Rack
         took: 0,
         wrote: 0,
     };
+    let mut formed = b.is_well_formed();
     while r.took < chunk.len() {
-        r = take_line(r, line, chunk, out);
+        r = take_line(r, formed, line, chunk, out);
+        if !formed {
+            let next = r.board;
+            formed = next.is_well_formed();
+        }
     }
     r
 }
@@ -72,7 +79,7 @@ fn take_all(s: Rack, line: &mut [u8], chunk: &[u8], out: &mut [u8]) -> Rack
 // Takes the first n bytes of the chunk, all if there are fewer. The caller has seen to the lengths as for take_all.
 fn take_first(s: Rack, line: &mut [u8], chunk: &[u8], n: usize, out: &mut [u8]) -> Rack
     requires { ⌜ (length (now line) ≡ heldBytes) × (length (now chunk) * lineBytes ≤ length (now out)) ⌝ }
-    ensures { λ r. ⌜ Taken 0 s (now (line .entry)) (now (out .entry)) (take n (now (chunk .entry))) r (now (line .exit)) (now (out .exit)) ⌝ }
+    ensures { λ r. ⌜ Taken 0 0 s (now (line .entry)) (now (out .entry)) (take n (now (chunk .entry))) r (now (line .exit)) (now (out .exit)) ⌝ }
 {
     let k = least(n, chunk.len());
     let mut t = s;
@@ -89,7 +96,14 @@ fn take_last(s: Rack, line: &[u8], out: &mut [u8]) -> usize
     if k == 0 {
         return 0;
     }
-    let ran = run_line(s.board, s.number, &line[..k], out, 0);
+    let ran = run_line(
+        s.board,
+        s.board.is_well_formed(),
+        s.number,
+        &line[..k],
+        out,
+        0,
+    );
     ran.wrote
 }
 
@@ -121,7 +135,7 @@ pub fn run_chunk(
     n: usize,
     out: &mut [u8; OUT_BYTES],
 ) -> Rack
-    ensures { λ r. ⌜ Taken 0 s (now (line .entry)) (now (out .entry)) (take n (now (chunk .entry))) r (now (line .exit)) (now (out .exit)) ⌝ }
+    ensures { λ r. ⌜ Taken 0 0 s (now (line .entry)) (now (out .entry)) (take n (now (chunk .entry))) r (now (line .exit)) (now (out .exit)) ⌝ }
 {
     take_first(s, line, chunk, n, out)
 }

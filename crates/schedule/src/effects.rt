@@ -3,6 +3,7 @@ ghost use mathlib.Core.Path.{_≡_};
 ghost use Prim.Native.Nat.{_+_, _≤_};
 ghost use lib.ListN.{length};
 ghost use lib.Seq.{sets};
+ghost use Rattle.board.specs.WellFormed.{wellFormed};
 ghost use Rattle.text.specs.Text.{lineBytes};
 ghost use Rattle.schedule.specs.Schedule.{answerTo, boardAfter, rowOf, effectOf, nextNumber};
 use board::Answer;
@@ -13,7 +14,7 @@ use lines::Line;
 use lines::reading::read_line;
 use text::Row;
 use text::writing::put_line;
-use verbs::step_of;
+use verbs::step_known;
 
 // The board after a line, and how far the output is written.
 pub(crate) struct Ran {
@@ -31,15 +32,16 @@ pub(crate) fn next_number(n: u64) -> u64
     n
 }
 
-// The answer to a line.
-fn answer_to(line: &[u8], b: Board) -> Answer
+// The answer to a line. The caller knows whether the board is well formed.
+fn answer_to(line: &[u8], b: Board, formed: bool) -> Answer
+    requires { ⌜ formed ≡ wellFormed b ⌝ }
     ensures { λ r. ⌜ r ≡ answerTo (now (line .entry)) b ⌝ }
 {
     let l = read_line(line);
     match l {
         Line::TooLong => Answer::refused(LINE_TOO_LONG, b),
         Line::NotThree => Answer::refused(NOT_THREE_FIELDS, b),
-        Line::Numbers(verb, x, y) => step_of(b, verb, x, y),
+        Line::Numbers(verb, x, y) => step_known(b, formed, verb, x, y),
     }
 }
 
@@ -47,7 +49,8 @@ fn answer_to(line: &[u8], b: Board) -> Answer
 fn board_after(b: Board, a: Answer) -> Board
     ensures { λ r. ⌜ r ≡ boardAfter b a ⌝ }
 {
-    if a.refusal != 0 {
+    let o = a.outcome;
+    if !o.is_accepted() {
         return b;
     }
     let next = a.board;
@@ -71,12 +74,20 @@ fn row_of(number: u64, a: Answer) -> Row
 }
 
 // Puts the line with this number to the board, and its output line into out at the place at. The caller has seen that an output
-// line has room there.
-pub(crate) fn run_line(b: Board, number: u64, line: &[u8], out: &mut [u8], at: usize) -> Ran
+// line has room there, and knows whether the board is well formed.
+pub(crate) fn run_line(
+    b: Board,
+    formed: bool,
+    number: u64,
+    line: &[u8],
+    out: &mut [u8],
+    at: usize,
+) -> Ran
     requires { ⌜ at + lineBytes ≤ length (now out) ⌝ }
+    requires { ⌜ formed ≡ wellFormed b ⌝ }
     ensures { λ r. ⌜ (r .wrote ≤ at + lineBytes) × (r .board ≡ effectOf b number (now (line .entry)) .board) × (r .wrote ≡ at + length (effectOf b number (now (line .entry)) .text)) × (now (out .exit) ≡ sets (now (out .entry)) at (effectOf b number (now (line .entry)) .text)) ⌝ }
 {
-    let a = answer_to(line, b);
+    let a = answer_to(line, b, formed);
     let end = put_line(out, at, row_of(number, a));
     let next = board_after(b, a);
     Ran {

@@ -18,4 +18,4 @@ stepOf (suc (suc (suc zero))) x y b = deliver b x y
 stepOf (suc (suc (suc (suc zero)))) x y b = nodeDown b x
 stepOf (suc (suc (suc (suc (suc zero))))) x y b = consoleDown b x
 stepOf (suc (suc (suc (suc (suc (suc zero)))))) x y b = nodeUp b x
-stepOf (suc (suc (suc (suc (suc (suc (suc z))))))) x y b = refuse 12 b
+stepOf (suc (suc (suc (suc (suc (suc (suc z))))))) x y b = refuse b 12

@@ -1,12 +1,11 @@
 //! Times a whole schedule: the program, the same in plain Rust, and the model, each a process that reads the same file.
-use crate::{goes_on, medians, Chance, Plain, Side, Step, LENGTH};
+use crate::{clock, goes_on, medians, Chance, Plain, Side, Step, LENGTH};
 use hatukeno::{Outcome, Refusal};
 use std::fmt::Write;
 use std::fs::{self, File};
 use std::io;
 use std::path::{Path, PathBuf};
 use std::process::{exit, Command, Stdio};
-use std::time::Instant;
 
 /// What is timed is written here.
 const SCHEDULE: &str = "target/bench.csv";
@@ -91,12 +90,12 @@ impl Program {
         Ok(output.stdout)
     }
 
-    /// From the start of the process to its end, its output thrown away.
+    /// What the process takes from its start to its end, its output thrown away.
     fn seconds(&self) -> io::Result<f64> {
         let mut command = self.command()?;
-        let start = Instant::now();
+        let start = clock::of_processes();
         let status = command.stdout(Stdio::null()).status()?;
-        let seconds = start.elapsed().as_secs_f64();
+        let seconds = clock::of_processes() - start;
         if !status.success() {
             return Err(io::Error::other(format!("{} ended with {status}", self.path.display())));
         }

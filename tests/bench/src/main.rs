@@ -6,6 +6,7 @@
 //!     bench --as-unasked <SCHEDULE
 //!
 //! With --rounds 0 no steps are timed, with --lines 0 no schedule. The other two write plain Rust's answers to the schedule.
+mod clock;
 mod lines;
 mod loaded;
 mod plain;
@@ -343,52 +344,51 @@ fn damaged(chance: &mut Chance, rows: &[Row]) -> usize {
 fn each<B: Side>(pairs: &[(Words, Step)]) -> f64 {
     let mut boards: Vec<(B, Step)> = pairs.iter().map(|(words, step)| (B::of(words), *step)).collect();
     let boards = black_box(&mut boards);
-    let start = Instant::now();
-    for (board, step) in boards.iter_mut() {
-        let _ = black_box(board.step(*step));
-    }
-    let time = start.elapsed().as_nanos() as f64 / boards.len() as f64;
-    black_box(boards);
-    time
+    let time = clock::nanoseconds(|| {
+        for (board, step) in boards.iter_mut() {
+            let _ = black_box(board.step(*step));
+        }
+    });
+    black_box(&boards);
+    time / boards.len() as f64
 }
 
 /// Nanoseconds for a fresh board, over all 40 sizes.
 fn fresh<B: Side>() -> f64 {
     let sizes: Vec<(u32, u32)> = (0..BOARDS as u32).map(|i| (1 + i / 8 % 5, 1 + i % 8)).collect();
     let sizes = black_box(sizes);
-    let start = Instant::now();
-    for (n, m) in &sizes {
-        let _ = black_box(&B::made(*n, *m));
-    }
-    start.elapsed().as_nanos() as f64 / sizes.len() as f64
+    let time = clock::nanoseconds(|| {
+        for (n, m) in &sizes {
+            let _ = black_box(&B::made(*n, *m));
+        }
+    });
+    time / sizes.len() as f64
 }
 
 /// Nanoseconds for a step of whole runs from start to end, one call for each step.
 fn whole<B: Side>(runs: &[Run]) -> f64 {
-    let mut count = 0;
-    let start = Instant::now();
-    for run in black_box(runs) {
-        let mut board = B::made(run.n, run.m).expect("an allowed size");
-        for step in &run.steps {
-            let _ = black_box(board.step(*step));
+    let time = clock::nanoseconds(|| {
+        for run in black_box(runs) {
+            let mut board = B::made(run.n, run.m).expect("an allowed size");
+            for step in &run.steps {
+                let _ = black_box(board.step(*step));
+            }
+            black_box(&board);
         }
-        black_box(&board);
-        count += 1 + run.steps.len();
-    }
-    start.elapsed().as_nanos() as f64 / count as f64
+    });
+    time / runs.iter().map(|run| 1 + run.steps.len()).sum::<usize>() as f64
 }
 
 /// The same through the library's one call for a list.
 fn listed(runs: &[Vec<hatukeno::Step>]) -> f64 {
-    let mut count = 0;
-    let start = Instant::now();
-    for steps in black_box(runs) {
-        let mut board = Board::from_words([0; BOARD_WORDS]);
-        black_box(board.run(steps));
-        black_box(&board);
-        count += steps.len();
-    }
-    start.elapsed().as_nanos() as f64 / count as f64
+    let time = clock::nanoseconds(|| {
+        for steps in black_box(runs) {
+            let mut board = Board::from_words([0; BOARD_WORDS]);
+            black_box(board.run(steps));
+            black_box(&board);
+        }
+    });
+    time / runs.iter().map(Vec::len).sum::<usize>() as f64
 }
 
 /// A run as a list for the library.

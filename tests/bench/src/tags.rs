@@ -1,10 +1,9 @@
 //! What comparing tags takes of a delivery: by number, as the library does, and by order, as it did before Paper 5. Both stand
 //! here in plain Rust.
 use crate::plain::{CELL, CELLS, CONSOLE, CONSOLES, NODE, NODES};
-use crate::{is_dead, Step, Words};
+use crate::{clock, is_dead, Step, Words};
 use hatukeno::Tag;
 use std::hint::black_box;
-use std::time::Instant;
 
 /// How often the tags are gone through, so that the clock is not what is measured.
 const TIMES: usize = 100;
@@ -67,15 +66,16 @@ pub fn pair(w: &Words, step: Step) -> Option<Pair> {
 /// Nanoseconds to compare all these tags once, with a call for each comparison.
 pub fn time(pairs: &[Pair], is_greater: IsGreater) -> f64 {
     let is_greater = black_box(is_greater);
-    let start = Instant::now();
-    for _ in 0..TIMES {
-        for Pair { tag, with, is_reply } in black_box(pairs) {
-            let is_first = is_greater(*tag, *with);
-            if *is_reply && !is_first {
-                black_box(is_greater(*with, *tag));
+    let time = clock::nanoseconds(|| {
+        for _ in 0..TIMES {
+            for Pair { tag, with, is_reply } in black_box(pairs) {
+                let is_first = is_greater(*tag, *with);
+                if *is_reply && !is_first {
+                    black_box(is_greater(*with, *tag));
+                }
+                black_box(is_first);
             }
-            black_box(is_first);
         }
-    }
-    start.elapsed().as_nanos() as f64 / TIMES as f64
+    });
+    time / TIMES as f64
 }

@@ -1,8 +1,9 @@
 -- The two questions in their order, then the board.
 use mathlib.Core.Path.{sym, ap, _∙_}
 use borrow.Author.Needs.{needs}
-use Rattle.board.proofs.AnswersLaws.{guarded-no, guarded-yes, guarded-end}
+use Rattle.changes.proofs.QuestionsLaws.{guarded-no, guarded-yes, guarded-end}
 use Rattle.board.specs.Answers.{answer, refuse}
+use Rattle.board.specs.declared.Board.{Board}
 use Rattle.board.specs.Steps.{fresh}
 use Rattle.parts.specs.declared.Outcome.the-variants.{Done}
 use Rattle.parts.proofs.FiniteLaws.{said-no, said-yes}
@@ -20,7 +21,7 @@ refused-requires c κs = search needs
 
 returns : tie.Need-returns
 unfolding fresh
-returns c = c .refused .ensures ∙ ap (refuse 2) (c .before .smallest .ensures) ∙ sym (guarded-no _ _ _ _ (said-no (c .before .before .before .is-node-count .ensures) (c .before .before .if1 .taken)))
+returns c = c .refused .ensures ∙ ap (λ (b : Board). refuse b 2) (c .before .smallest .ensures) ∙ sym (guarded-no _ _ _ _ (said-no (c .before .before .before .is-node-count .ensures) (c .before .before .if1 .taken)))
 
 is-console-count-requires : tie.Need-is-console-count-requires
 is-console-count-requires c κs = search needs
@@ -33,7 +34,7 @@ refused-requires-2 c κs = search needs
 
 returns-2 : tie.Need-returns-2
 unfolding fresh
-returns-2 c = c .refused2 .ensures ∙ ap (refuse 3) (c .before .smallest2 .ensures) ∙ sym (guarded-yes _ _ _ _ (said-yes (c .before .before .before .before .before .is-node-count .ensures) (c .before .before .before .before .if1 .left)) ∙ guarded-no _ _ _ _ (said-no (c .before .before .before .is-console-count .ensures) (c .before .before .if2 .taken)))
+returns-2 c = c .refused2 .ensures ∙ ap (λ (b : Board). refuse b 3) (c .before .smallest2 .ensures) ∙ sym (guarded-yes _ _ _ _ (said-yes (c .before .before .before .before .before .is-node-count .ensures) (c .before .before .before .before .if1 .left)) ∙ guarded-no _ _ _ _ (said-no (c .before .before .before .is-console-count .ensures) (c .before .before .if2 .taken)))
 
 made-requires : tie.Need-made-requires
 made-requires c κs = search needs

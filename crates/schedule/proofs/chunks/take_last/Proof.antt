@@ -23,6 +23,9 @@ returns c =
     let none = no-last s (omega (arith, length-take (args .s .held) (args .line .now))) in
     (omega arith, omega (arith, ap length none), sym (ap (sets (args .out .now) 0) none))
 
+is-well-formed-requires : tie.Need-is-well-formed-requires
+is-well-formed-requires c κs = search needs
+
 slice-aggregate-run-line : tie.Need-slice-aggregate-run-line
 slice-aggregate-run-line c = sym (length-take-le _ _ (omega arith))
 
@@ -35,7 +38,7 @@ same-length c = search needs
 returns-2 : tie.Need-returns-2
 returns-2 c =
     let ran = c .before .before in
-    let cut = ran .before .before .before .before in
+    let cut = ran .before .before .before .before .before in
     let args = cut .before .before .before .args in
     let s : Session = sessionOf (args .s) (args .line .now) in
     let held : take (cut .least .result) (args .line .now) ≡ s .held = take-least (args .line .now) (args .s .held) (cut .least .result) (cut .least .ensures) in
@@ -48,6 +51,7 @@ take-last-spec =
     (tie.spec
     least-requires
     returns
+    is-well-formed-requires
     slice-aggregate-run-line
     run-line-requires
     same-length

@@ -1,6 +1,6 @@
 -- Either the chunk ends before the line does (before-lf), or its LF is there (after-lf). What is held is what `hold` and `chopped`
 -- leave of it.
-use Prim.Native.Nat.{ℕ, _≤_, _<_}
+use Prim.Native.Nat.{ℕ, _+_, _≤_, _<_}
 use mathlib.Core.List.{List, _++_}
 use mathlib.Core.Path.{_≡_, sym, ap, _∙_}
 use native.Mathlib.Omega.{arith}
@@ -9,7 +9,7 @@ use lib.Seq.{sets, length-take-le}
 use Rattle.split.specs.Split.{chop, heldBytes}
 use Rattle.schedule.specs.Schedule.{effectOf}
 use Rattle.schedule.specs.Chunks.{Session, sessionOf, part}
-use Rattle.schedule.proofs.ChunksLaws.{before-lf, before-lf-text, after-lf, after-lf-text}
+use Rattle.schedule.proofs.ChunksLaws.{before-lf, before-lf-text, after-lf, after-lf-text, held-is, part-length}
 use borrow.Author.Needs.{needs}
 use Rattle.schedule.proofs.chunks.take_line.Statement.{statement}
 use Rattle.schedule.proofs.chunks.take_line.Tie as tie
@@ -44,11 +44,14 @@ returns c =
     let few : length (s .held) ≤ heldBytes = omega (arith, length-take (entry .args .s .held) (entry .args .line .now)) in
     let inside : i ≤ length chunk = omega arith in
     let kept : take (held .hold .result) (held .hold .last .0) ≡ take heldBytes (s .held ++ part i e chunk) =
-    held .hold .ensures .1 ∙ ap (λ (n : ℕ). take n (s .held ++ part i e chunk)) (entry .pre .1) in
+    held .hold .ensures .1 ∙ ap (λ (n : ℕ). take n (s .held ++ part i e chunk)) (entry .pre .0 .1) in
+    let stands = ap (λ (l : List ℕ). record { held = l; board = s .board; number = s .number }) kept ∙ sym (before-lf s chunk i e few inside (found .find .ensures .0)) in
     let text = before-lf-text s chunk i e few inside (found .find .ensures .0) in (
       (omega arith, omega arith, omega arith, omega arith),
       record {
-        session = ap (λ (l : List ℕ). record { held = l; board = s .board; number = s .number }) kept ∙ sym (before-lf s chunk i e few inside (found .find .ensures .0));
+        session = stands;
+        held = held-is (held .hold .result) (held .hold .last .0) _ (ap (λ (z : Session). z .held) stands) (held .hold .ensures .0);
+        took = part-length chunk i e (omega arith) (omega arith);
         written = sym (ap (sets (entry .args .out .now) (entry .args .s .wrote)) text);
         wrote = omega (arith, ap length text);
         room = omega arith;
@@ -70,8 +73,11 @@ run-line-requires c κs = search needs
 next-number-requires : tie.Need-next-number-requires
 next-number-requires c κs = search needs
 
-add-t12 : tie.Need-add-t12
-add-t12 c = record { fits = omega (arith, c .before .before .before .before .before .before .before .before .before .before .before .before .before .before .before .before .before .before .before .good .1 .1 .0) }
+add-t13 : tie.Need-add-t13
+add-t13 c =
+    let ran = c .before .before .before .before .before in
+    let held = ran .before .before .before .before .before .before .before in
+    record { fits = omega (arith, held .before .before .before .before .before .before .before .good .1 .1 .1 .0) }
 
 same-length-2 : tie.Need-same-length-2
 same-length-2 c = search needs
@@ -93,13 +99,16 @@ returns-2 c =
     let few : length (s .held) ≤ heldBytes = omega (arith, length-take (entry .args .s .held) (entry .args .line .now)) in
     let inside : i ≤ length chunk = omega arith in
     let kept : take (held .hold .result) (held .hold .last .0) ≡ take heldBytes (s .held ++ part i e chunk) =
-    held .hold .ensures .1 ∙ ap (λ (n : ℕ). take n (s .held ++ part i e chunk)) (entry .pre .1) in
+    held .hold .ensures .1 ∙ ap (λ (n : ℕ). take n (s .held ++ part i e chunk)) (entry .pre .0 .1) in
     let more : e < length chunk = omega arith in
     let line : take (cut .chopped .result) (held .hold .last .0) ≡ chop (take heldBytes (s .held ++ part i e chunk)) = cut .chopped .ensures .1 ∙ ap chop kept in
+    let stands = after-lf s chunk i e few inside (found .find .ensures .0) more in
     let text = after-lf-text s chunk i e few inside (found .find .ensures .0) more ∙ sym (ap (λ (l : List ℕ). effectOf (s .board) (s .number) l .text) line) in (
       (omega arith, omega arith, omega arith, ran .run-line .ensures .0),
       record {
-        session = simp (ran .run-line .ensures .1, c .next-number .ensures, line) (sym (after-lf s chunk i e few inside (found .find .ensures .0) more));
+        session = simp (ran .run-line .ensures .1, c .next-number .ensures, line) (sym stands);
+        held = ap (λ (z : Session). length (z .held)) (sym stands);
+        took = part-length chunk i (e + 1) (omega arith) (omega arith);
         written = rw text (ran .run-line .ensures .3);
         wrote = rw text (ran .run-line .ensures .2);
         room = omega (arith, ran .run-line .ensures .0);
@@ -122,7 +131,7 @@ take-line-spec =
     slice-aggregate-run-line
     run-line-requires
     next-number-requires
-    add-t12
+    add-t13
     same-length-2
     same-length-3
     returns-2)

@@ -24,8 +24,8 @@ refused-requires-2 c κs = search needs
 enum-known-l : tie.Need-enum-known-l
 enum-known-l c = search needs
 
-step-of-requires : tie.Need-step-of-requires
-step-of-requires c κs = search needs
+step-known-requires : tie.Need-step-known-requires
+step-known-requires c κs = search needs
 
 returns : tie.Need-returns
 unfolding answerOf
@@ -37,7 +37,9 @@ returns-2 c = c .refused2 .ensures ∙ ap (λ (l : Line). answerOf l (c .before 
 
 returns-3 : tie.Need-returns-3
 unfolding answerOf
-returns-3 c = c .step-of .ensures ∙ ap (λ (l : Line). answerOf l (c .before .before .before .before .before .before .args .b)) (sym (c .before .before .l .given .1) ∙ c .before .before .before .before .read-line .ensures)
+returns-3 c =
+    let entry = c .before .before .before .before .before .before in
+    c .step-known .ensures (entry .pre) ∙ ap (λ (l : Line). answerOf l (entry .args .b)) (sym (c .before .before .l .given .1) ∙ c .before .before .before .before .read-line .ensures)
 
 pub answer-to-spec : {M : Type 1} → statement M
 answer-to-spec =
@@ -49,7 +51,7 @@ answer-to-spec =
     enum-told-2
     refused-requires-2
     enum-known-l
-    step-of-requires
+    step-known-requires
     returns
     returns-2
     returns-3)

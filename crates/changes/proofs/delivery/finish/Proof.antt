@@ -1,0 +1,18 @@
+-- The console rests: each call is its definition.
+use borrow.Author.Needs.{needs}
+use Rattle.changes.specs.Deliver.{finished}
+use Rattle.changes.proofs.delivery.finish.Statement.{statement}
+use Rattle.changes.proofs.delivery.finish.Tie as tie
+
+rest-requires : tie.Need-rest-requires
+rest-requires c κs = search needs
+
+accepted-requires : tie.Need-accepted-requires
+accepted-requires c κs = search needs
+
+returns : tie.Need-returns
+unfolding finished
+returns c = rw (c .accepted .ensures, c .before .rest .ensures)
+
+pub finish-spec : {M : Type 1} → statement M
+finish-spec = tie.close (tie.spec rest-requires accepted-requires returns)
