@@ -1,5 +1,6 @@
--- P1 to P10 as one theorem, by computation: what each run of the list shows is what it must show. Then the same of the runs of
--- node up, of those that say how replies compare, of those under release 2, and of those with a down console.
+-- P1 to P10 as one theorem, by computation: what each run of the list shows is what it must show. Then the same of the
+-- runs of node up, of those that say how replies compare, of those under release 2, of those with a down console, and
+-- of those that hold the definitions to single sentences.
 use mathlib.Core.List.{List, map}
 use mathlib.Core.Path.{_≡_, refl}
 use Rattle.parts.specs.Finite.{every, count}
@@ -23,6 +24,7 @@ use Rattle.board.specs.UpRuns.{upRuns}
 use Rattle.board.specs.CompareRuns.{CompareRun, Told, allTold, says, mustSay, written, lower, higher, compareRuns}
 use Rattle.board.specs.QuietRuns.{quietRuns, quietReplies}
 use Rattle.board.specs.DeadRuns.{deadRuns}
+use Rattle.board.specs.OrderRuns.{orderRuns}
 
 -- what runs show, with every definition opened
 opened : List PRun → List CompareRun → List (List Seen) × List (List Told)
@@ -52,3 +54,7 @@ quiet-replies-hold = refl
 pub dead-runs-hold : map shows deadRuns ≡ map mustShow deadRuns
 unfolding opened deadRuns
 dead-runs-hold = refl
+
+pub order-runs-hold : map shows orderRuns ≡ map mustShow orderRuns
+unfolding opened orderRuns
+order-runs-hold = refl

@@ -15,7 +15,7 @@ use Rattle.board.specs.Steps.{setupOf}
 use Rattle.board.specs.Runs.{ConsoleDown}
 use Rattle.board.specs.PRuns.{Look, Take, NodeOf, CellOf, Whole, Holds, Frames, Is, Line, _gives_, PRun, tag, refused, done, handed, discarded, read, deliver, nodeDown, onThree, p2-steps, run, blank}
 
-abbrev consoleDown : ℕ → Look
+abbrev pub consoleDown : ℕ → Look
 consoleDown c = Take (ConsoleDown c)
 
 -- P2 up to where its put has reached node 0, and then its console goes down

@@ -11,3 +11,4 @@ pub mod UpRuns
 pub mod CompareRuns
 pub mod QuietRuns
 pub mod DeadRuns
+pub mod OrderRuns

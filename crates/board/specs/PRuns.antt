@@ -114,13 +114,13 @@ abbrev pub discarded : Seen
 discarded = Said 6 0 zeroTag 0
 
 -- document 01's fresh, which is release 1
-abbrev fresh : ℕ → ℕ → Look
+abbrev pub fresh : ℕ → ℕ → Look
 fresh n m = Make (setupOf n m One)
 
 abbrev pub read : ℕ → Look
 read c = Take (BeginRead c)
 
-abbrev write : ℕ → ℕ → Look
+abbrev pub write : ℕ → ℕ → Look
 write c v = Take (BeginWrite c v)
 
 abbrev pub deliver : ℕ → ℕ → Look
@@ -218,7 +218,7 @@ p5 =
     ∷ []
 
 -- a writer's asking, by nodes 0 and 1, which both reply (0, 0)
-abbrev asksTwo : ℕ → List Line
+abbrev pub asksTwo : ℕ → List Line
 asksTwo c =
     deliver c 0 gives handed
     ∷ CellOf c 0 gives Frames (Reply (tag 0 0) 0)

@@ -9,7 +9,7 @@ use Rattle.board.specs.Steps.{setupOf}
 use Rattle.board.specs.Runs.{NodeUp}
 use Rattle.board.specs.PRuns.{Look, Take, NodeOf, CellOf, Whole, Holds, Frames, Is, Line, _gives_, PRun, tag, refused, done, handed, deliver, nodeDown, onThree, p2-steps, run, blank, p9-board}
 
-abbrev nodeUp : ℕ → Look
+abbrev pub nodeUp : ℕ → Look
 nodeUp k = Take (NodeUp k)
 
 -- 'the node resumes with the tag and value it held'
