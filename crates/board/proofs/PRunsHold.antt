@@ -1,6 +1,6 @@
 -- P1 to P10 as one theorem, by computation: what each run of the list shows is what it must show. Then the same of the
 -- runs of node up, of those that say how replies compare, of those under release 2, of those with a down console, and
--- of those that hold the definitions to single sentences.
+-- of those that hold the definitions to single sentences; and of question 1's boards.
 use mathlib.Core.List.{List, map}
 use mathlib.Core.Path.{_≡_, refl}
 use Rattle.parts.specs.Finite.{every, count}
@@ -25,6 +25,7 @@ use Rattle.board.specs.CompareRuns.{CompareRun, Told, allTold, says, mus
 use Rattle.board.specs.QuietRuns.{quietRuns, quietReplies}
 use Rattle.board.specs.DeadRuns.{deadRuns}
 use Rattle.board.specs.OrderRuns.{orderRuns}
+use Rattle.board.specs.FormedBoards.{FormedBoard, formedBoards}
 
 -- what runs show, with every definition opened
 opened : List PRun → List CompareRun → List (List Seen) × List (List Told)
@@ -58,3 +59,7 @@ dead-runs-hold = refl
 pub order-runs-hold : map shows orderRuns ≡ map mustShow orderRuns
 unfolding opened orderRuns
 order-runs-hold = refl
+
+pub formed-boards-hold : map (λ (x : FormedBoard). wellFormed (x .board)) formedBoards ≡ map (λ (x : FormedBoard). x .formed) formedBoards
+unfolding opened formedBoards
+formed-boards-hold = refl

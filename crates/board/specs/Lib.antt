@@ -12,3 +12,4 @@ pub mod CompareRuns
 pub mod QuietRuns
 pub mod DeadRuns
 pub mod OrderRuns
+pub mod FormedBoards
