@@ -24,7 +24,7 @@ use Rattle.board.specs.UpRuns.{upRuns}
 use Rattle.board.specs.CompareRuns.{CompareRun, Told, allTold, says, mustSay, written, lower, higher, compareRuns}
 use Rattle.board.specs.QuietRuns.{quietRuns, quietReplies}
 use Rattle.board.specs.DeadRuns.{deadRuns}
-use Rattle.board.specs.OrderRuns.{orderRuns}
+use Rattle.board.specs.OrderRuns.{Decided, orderRuns, orderDecisions}
 use Rattle.board.specs.FormedBoards.{FormedBoard, formedBoards}
 
 -- what runs show, with every definition opened
@@ -59,6 +59,10 @@ dead-runs-hold = refl
 pub order-runs-hold : map shows orderRuns ≡ map mustShow orderRuns
 unfolding opened orderRuns
 order-runs-hold = refl
+
+pub order-decisions-hold : map (λ (x : Decided). x .decides) orderDecisions ≡ map (λ (x : Decided). x .must) orderDecisions
+unfolding opened orderDecisions
+order-decisions-hold = refl
 
 pub formed-boards-hold : map (λ (x : FormedBoard). wellFormed (x .board)) formedBoards ≡ map (λ (x : FormedBoard). x .formed) formedBoards
 unfolding opened formedBoards

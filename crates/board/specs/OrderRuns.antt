@@ -12,11 +12,20 @@ use Rattle.parts.specs.declared.Cell.{Cell}
 use Rattle.parts.specs.declared.Node.{Node}
 use Rattle.parts.specs.declared.Kind.the-variants.{Read, Write}
 use Rattle.parts.specs.declared.State.{State}
-use Rattle.parts.specs.declared.State.the-variants.{Asking, Telling, Down}
+use Rattle.parts.specs.declared.State.the-variants.{Idle, Asking, Telling, Down}
 use Rattle.parts.specs.declared.Console.{Console}
 use Rattle.parts.specs.declared.Release.the-variants.{One}
+use Rattle.parts.specs.declared.Setup.{Setup}
+use Rattle.parts.specs.declared.Outcome.the-variants.{Done}
+use Rattle.parts.specs.declared.Compared.the-variants.{None}
 use Rattle.parts.specs.Tags.{zeroTag}
 use Rattle.parts.specs.Parts.{freshNode, idleConsole, cellOf}
+use Rattle.changes.specs.declared.Part.the-variants.{ConsoleTo}
+use Rattle.changes.specs.declared.Sent.the-variants.{Row}
+use Rattle.changes.specs.declared.Decision.{Decision}
+use Rattle.changes.specs.declared.Decision.the-variants.{Refuse}
+use Rattle.changes.specs.Decisions as decisions
+use Rattle.changes.specs.Decisions.{accept}
 use Rattle.board.specs.declared.Board.{Board}
 use Rattle.board.specs.Steps.{setupOf}
 use Rattle.board.specs.PRuns.{NodeOf, CellOf, Whole, Holds, Frames, Is, Line, _gives_, PRun, tag, refused, done, handed, heard, turned, finished, discarded, fresh, read, write, deliver, nodeDown, onThree, p2-steps, p3-steps, asksTwo, run, blank, p9-board}
@@ -364,6 +373,31 @@ down-node =
     ++ (nodeDown 0 gives done
     ∷ Whole gives Is (boardOf1 (nodes (downNode (tag 1 1) 7) freshNode (holding 1 1 7)) idleConsole (row Nothing (Put (tag 1 1) 7) Nothing))
     ∷ []))
+
+-- ---- what no board can tell, since question 1 comes first, told by the decisions: each with what it must be
+
+pub record Decided : Type 0 where
+  pub decides : Decision
+  pub must : Decision
+
+infix 70 _must-be_
+abbrev _must-be_ : Decision → Decision → Decided
+d must-be e = record { decides = d; must = e }
+
+abbrev three-two : Setup
+three-two = setupOf 3 2 One
+
+-- 4 before 6 and 7 at begins, 4 before 6 at console down: of a console beyond m that is down, or waits. 5 before 9 at node down: of a node
+-- beyond n that is down. A begin has 'nothing answered and best (0, 0), 0', whatever the console had
+unfoldable pub orderDecisions : List Decided
+orderDecisions =
+    decisions.begins true three-two 2 Read 0 downConsole must-be Refuse 4
+    ∷ decisions.begins true three-two 2 Write 9 (console (Asking Read) 0 0 zeroTag 0 false) must-be Refuse 4
+    ∷ decisions.ends true three-two 2 downConsole must-be Refuse 4
+    ∷ decisions.falls true three-two 3 (downNode zeroTag 0) must-be Refuse 5
+    ∷ decisions.begins true three-two 1 Write 9 (console Idle 7 1 (tag 1 1) 5 true) must-be
+    accept None Done (ConsoleTo (console (Asking Write) 9 0 zeroTag 0 false)) (Row Ask)
+    ∷ []
 
 unfoldable pub orderRuns : List PRun
 unfolding node-takes puts makes begins switches delivers damaged damaged-ts high-write high-read begins-write begins-read hears-reply hears-ack turns-write turns-read finishes keeps-others others resting down-asking down-telling down-node

@@ -36,9 +36,15 @@ loop-holds : tie.Need-loop-holds Inv-loop μ-loop
 unfolding afterBytes textOf
 loop-holds c =
     let line = c .before .before .before .before .before .args .line .now in
-    let held = c .before .before .before .before .before .args .s .held in
-    (omega arith, refl, omega arith, refl, omega arith, c .is-well-formed .ensures,
-    record { session = refl; held = omega (arith, length-take held line); took = refl; written = refl; wrote = refl; room = omega arith })
+    let held = c .before .before .before .before .before .args .s .held in (
+      omega arith,
+      refl,
+      omega arith,
+      refl,
+      omega arith,
+      c .is-well-formed .ensures,
+      record { session = refl; held = omega (arith, length-take held line); took = refl; written = refl; wrote = refl; room = omega arith },
+    )
 
 take-line-requires : tie.Need-take-line-requires Inv-loop μ-loop
 take-line-requires c κs = (search needs, c .before .before .before .before .loop .inv .5)
