@@ -79,7 +79,7 @@ fn step_at(q: &[u32], i: usize, b: Board, formed: bool) -> Answer
 }
 
 // Puts the steps to the board b, with their answers into s. The caller has seen that s reaches for them. Question 1 is asked once: a
-// well-formed board stays so. If it is not, a step may still make a fresh one.
+// well-formed board stays so. While it is not, question 1 is asked after each step, since a fresh may have made another board.
 fn run_steps(q: &[u32], s: &mut [u32], b: Board) -> Course
     requires { ⌜ stepsIn (length (now q)) * answerWords ≤ length (now s) ⌝ }
     ensures { λ r. ⌜ (r ≡ after (now (q .entry)) b (stepsIn (length (now (q .entry))))) × (now (s .exit) ≡ answers (now (q .entry)) b (now (s .entry)) (stepsIn (length (now (q .entry))))) ⌝ }

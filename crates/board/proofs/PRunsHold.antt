@@ -1,6 +1,6 @@
 -- P1 to P10 as one theorem, by computation: what each run of the list shows is what it must show. Then the same of the
 -- runs of node up, of those that say how replies compare, of those under release 2, of those with a down console, and
--- of those that hold the definitions to single sentences; and of question 1's boards.
+-- of those that hold the definitions to single sentences, of decisions; and of question 1's boards.
 use mathlib.Core.List.{List, map}
 use mathlib.Core.Path.{_≡_, refl}
 use Rattle.parts.specs.Finite.{every, count}

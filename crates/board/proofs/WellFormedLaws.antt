@@ -7,12 +7,11 @@ use native.Mathlib.Omega.{arith}
 use borrow.Author.Tests.{leb-true, ltb-true, lt-ltb}
 use lib.Dec.{leb, ltb}
 use Rattle.parts.specs.declared.Tag.{Tag}
-use Rattle.parts.specs.declared.Frame.the-variants.{Reply, Put}
 use Rattle.parts.specs.declared.Setup.{Setup}
 use Rattle.parts.specs.Limits.{maxTs}
 use Rattle.parts.proofs.FiniteLaws.{and-left, and-right, every-at}
 use Rattle.checks.specs.Clauses.{nodesAllowed, consolesAllowed, setupOk, tagOk, nodeOk, nodesOk, markOk, consoleOk, consolesOk, frameOk, cellOk, rowOk, cellsOk}
-use Rattle.changes.specs.Deliver.{Comparable}
+use Rattle.changes.specs.Comparable.{Comparable}
 use Rattle.board.specs.declared.Board.{Board}
 use Rattle.board.specs.Boards.{nodeAt, consoleAt, frameAt}
 use Rattle.board.specs.WellFormed.{wellFormed}
@@ -38,11 +37,11 @@ module _ (b : Board) (h : wellFormed b ≡ true) where
   unfolding wellFormed
   cells-part = and-right (setupOk (b .setup) && nodesOk (b .setup) (b .nodes) && consolesOk (b .setup) (b .consoles)) _ h
 
-  pub n-at-most : b .setup .n ≤ 5
+  n-at-most : b .setup .n ≤ 5
   unfolding setupOk nodesAllowed
   n-at-most = leb-true (b .setup .n) 5 (and-right (leb 1 (b .setup .n)) _ (and-left (leb 1 (b .setup .n) && leb (b .setup .n) 5) _ setup-part))
 
-  pub m-at-most : b .setup .m ≤ 8
+  m-at-most : b .setup .m ≤ 8
   unfolding setupOk consolesAllowed nodesAllowed
   m-at-most = leb-true (b .setup .m) 8 (and-right (leb 1 (b .setup .m)) _ (and-right (leb 1 (b .setup .n) && leb (b .setup .n) 5) _ setup-part))
 
@@ -78,8 +77,8 @@ module _ (b : Board) (h : wellFormed b ≡ true) where
     unfolding frameOk
     comparable = record {
       k-8 = omega (arith, n-at-most);
-      best = omega (arith, tag-below (b .setup) (consoleAt b c .best) (consoleAt b c .value) best-tag, m-at-most);
-      node = omega (arith, tag-below (b .setup) (nodeAt b k .tag) (nodeAt b k .value) node-tag, m-at-most);
-      reply = λ t v e. omega (arith, tag-below (b .setup) t v (rw e at frame-passes), m-at-most);
-      put = λ t v e. omega (arith, tag-below (b .setup) t v (rw e at frame-passes), m-at-most);
+      best-8 = omega (arith, tag-below (b .setup) (consoleAt b c .best) (consoleAt b c .value) best-tag, m-at-most);
+      node-8 = omega (arith, tag-below (b .setup) (nodeAt b k .tag) (nodeAt b k .value) node-tag, m-at-most);
+      reply-8 = λ t v e. omega (arith, tag-below (b .setup) t v (rw e at frame-passes), m-at-most);
+      put-8 = λ t v e. omega (arith, tag-below (b .setup) t v (rw e at frame-passes), m-at-most);
     }

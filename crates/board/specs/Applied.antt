@@ -1,5 +1,5 @@
 -- What is decided of console c and node k (changes' Decisions and Deliver), done on the board. A step of a console alone names no node, and
--- one of a node alone no console: what is decided of it does not touch the other.
+-- one of a node alone no console: 0 stands for the number, and what is decided of such a step does not touch the other part.
 use Prim.Native.Nat.{ℕ}
 use Rattle.changes.specs.declared.Part.{Part}
 use Rattle.changes.specs.declared.Part.the-variants.{Neither, ConsoleTo, NodeTo}
@@ -12,7 +12,7 @@ use Rattle.board.specs.declared.Answer.{Answer}
 use Rattle.board.specs.Boards.{withNode, withConsole, withFrame, withRow}
 use Rattle.board.specs.Answers.{answerWith, refuse}
 
--- a frame goes into the cell of console c and node k, or into 'all n cells' of console c, or none goes
+-- a frame goes into the cell of console c and node k, or into 'all n cells' of console c, or the cells stay
 unfoldable pub withSent : Board → ℕ → ℕ → Sent → Board
 withSent b c k Keep = b
 withSent b c k (One f) = withFrame b c k f

@@ -6,7 +6,7 @@ use mathlib.Core.List.{List, [], _∷_, _++_}
 use lib.Dec.{eqb}
 use Rattle.parts.specs.declared.Tag.{Tag}
 use Rattle.parts.specs.declared.Frame.{Frame}
-use Rattle.parts.specs.declared.Frame.the-variants.{Nothing, Ask, Reply, Put, Ack}
+use Rattle.parts.specs.declared.Frame.the-variants.{Ask, Reply, Put, Ack}
 use Rattle.parts.specs.declared.Node.{Node}
 use Rattle.parts.specs.declared.Kind.{Kind}
 use Rattle.parts.specs.declared.Kind.the-variants.{Read, Write}

@@ -1,5 +1,5 @@
 -- Runs that hold the definitions to single sentences of document 01: the order of tags, the order of the questions, and
--- what each step leaves on the whole board. A definition that says otherwise is refused here, though its code says the
+-- what each step leaves on the whole board; and decisions, for what no board can tell. A definition that says otherwise is refused here, though its code says the
 -- same. proofs/PRunsHold.antt proves that the definitions give all of it.
 use Prim.Native.Nat.{ℕ}
 use mathlib.Core.Bool.{Bool, true, false}
@@ -159,7 +159,7 @@ makes =
     ∷ []
 
 -- begins and console down: 6 before 7, since a down console is not idle either. No board tells whether 4 comes before 6
--- and 7: on a well-formed board a console beyond m is idle. 'the board comes back unchanged'
+-- and 7 (orderDecisions does): on a well-formed board a console beyond m is idle. 'the board comes back unchanged'
 begins : List Line
 begins =
     onThree
@@ -179,7 +179,8 @@ begins =
     ∷ Whole gives Is (boardOf1 fresh-nodes downConsole (allOf Ask))
     ∷ [])
 
--- node down, node up: 5 before 14. No board tells whether 5 comes before 9: on a well-formed one a node beyond n is up
+-- node down, node up: 5 before 14. No board tells whether 5 comes before 9 (orderDecisions does): on a
+-- well-formed one a node beyond n is up
 switches : List Line
 switches =
     onThree
@@ -261,7 +262,7 @@ high-read =
 
 -- 'The console becomes asking, with nothing answered and best (0, 0), 0. All n of its cells become ask, whatever they
 -- held': P2's put is gone. 'the wanted value (0 for a read)'. No board tells a begin that clears best from one that
--- keeps it: an idle console's is (0, 0), 0
+-- keeps it (orderDecisions does): an idle console's is (0, 0), 0
 begins-write : List Line
 begins-write =
     onThree

@@ -19,18 +19,30 @@ impl Board {
     pub fn begin_read(self, c: ConsoleId) -> Answer
         ensures { λ r. ⌜ r ≡ beginRead self (c .0) ⌝ }
     {
-        self.begin_known(self.is_well_formed(), c, Kind::Read, 0)
+        self.begin_read_known(self.is_well_formed(), c)
+    }
+
+    pub fn begin_read_known(self, formed: bool, c: ConsoleId) -> Answer
+        ensures { λ r. ⌜ (formed ≡ wellFormed self → r ≡ beginRead self (c .0)) ⌝ }
+    {
+        self.begin_known(formed, c, Kind::Read, 0)
     }
 
     // Console c begins a write of v: it asks all nodes.
     pub fn begin_write(self, c: ConsoleId, v: u32) -> Answer
         ensures { λ r. ⌜ r ≡ beginWrite self (c .0) v ⌝ }
     {
-        self.begin_known(self.is_well_formed(), c, Kind::Write, v)
+        self.begin_write_known(self.is_well_formed(), c, v)
+    }
+
+    pub fn begin_write_known(self, formed: bool, c: ConsoleId, v: u32) -> Answer
+        ensures { λ r. ⌜ (formed ≡ wellFormed self → r ≡ beginWrite self (c .0) v) ⌝ }
+    {
+        self.begin_known(formed, c, Kind::Write, v)
     }
 
     // A begin of either kind; v is the wanted value.
-    pub fn begin_known(self, formed: bool, c: ConsoleId, w: Kind, v: u32) -> Answer
+    fn begin_known(self, formed: bool, c: ConsoleId, w: Kind, v: u32) -> Answer
         ensures { λ r. ⌜ (formed ≡ wellFormed self → r ≡ begin self (c .0) w v) ⌝ }
     {
         let x = self.console_at(c);

@@ -44,7 +44,7 @@ ends formed σ c x =
     Refuse
     (accept None Done (ConsoleTo (rests Down x)) Keep)
 
--- 'Node down (node): the node keeps tag and value, and nothing is delivered to it' (question 9). 'Outcome: done'
+-- 'Node down (node): the node keeps tag and value, and nothing is delivered to it': question 9 of a later delivery. 'Outcome: done'
 unfoldable pub falls : Bool → Setup → ℕ → Node → Decision
 falls formed σ k y =
     guarded
@@ -52,8 +52,8 @@ falls formed σ k y =
     Refuse
     (accept None Done (NodeTo (withUp false y)) Keep)
 
--- Node up (node): 'the node resumes with the tag and value it held, and frames waiting for it can be delivered again' (question 9). It
--- names no outcome, and so 'gives done'
+-- Node up (node): 'the node resumes with the tag and value it held, and frames waiting for it can be delivered again': question 9 of a later
+-- delivery. It names no outcome, and so 'gives done'
 unfoldable pub rises : Bool → Setup → ℕ → Node → Decision
 rises formed σ k y =
     guarded

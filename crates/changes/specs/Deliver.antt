@@ -1,10 +1,9 @@
 -- Deliver (document 01, 'The steps'), as a decision: what becomes of console c, which is x, of node k, which is y, and of their cell,
 -- which holds f, on a board that was made under the setup σ. One definition for each kind of frame. Only a reply that is taken in says how its tag compared
 -- (document 02, Paper 3), and it may finish a read early (Paper 4). An ask or a put of a down console is withdrawn (Paper 6).
-use Prim.Native.Nat.{ℕ, _<_}
+use Prim.Native.Nat.{ℕ}
 use mathlib.Core.Bool.{Bool, cond, not, _&&_}
 use mathlib.Core.List.{[], _∷_}
-use mathlib.Core.Path.{_≡_}
 use lib.Dec.{ltb}
 use Rattle.parts.specs.declared.Tag.{Tag}
 use Rattle.parts.specs.declared.Frame.{Frame}
@@ -17,7 +16,6 @@ use Rattle.parts.specs.declared.Outcome.the-variants.{Handed, Heard, Turned, Fi
 use Rattle.parts.specs.declared.Compared.{Compared}
 use Rattle.parts.specs.declared.Compared.the-variants.{None}
 use Rattle.parts.specs.AnsweredSet.{size}
-use Rattle.parts.specs.Limits.{maxConsoles}
 use Rattle.parts.specs.Sizes.{askSize, tellSize}
 use Rattle.parts.specs.Parts.{goesToNode, isAsking, isTelling, isTwo, isUp, writes}
 use Rattle.changes.specs.declared.TakenIn.{TakenIn}
@@ -29,11 +27,12 @@ use Rattle.changes.specs.Changes.{taken, rests, awaits, takesIn, tells, 
 use Rattle.changes.specs.Decisions.{accept}
 use Rattle.changes.specs.Questions.{guarded, is-well-formed, has-console, has-node, holds-frame, node-is-up, has-next-ts}
 
--- Ask: 'the cell becomes reply with the node's tag and value. Outcome: handed'
+-- Ask, of a node that is up, since 'nothing is delivered to' one that is down: 'the cell becomes reply with the node's tag and value. Outcome:
+-- handed'
 unfoldable pub onAsk : Node → Decision
 onAsk y = guarded (node-is-up y ∷ []) Refuse (accept None Handed Neither (One (Reply (y .tag) (y .value))))
 
--- Put: the node takes the greater tag. 'The cell becomes ack. Outcome: handed'
+-- Put, of a node that is up: it takes the greater tag. 'The cell becomes ack. Outcome: handed'
 unfoldable pub onPut : Node → Tag → ℕ → Decision
 onPut y t v = guarded (node-is-up y ∷ []) Refuse (accept None Handed (NodeTo (taken y t v)) (One Ack))
 
@@ -41,7 +40,7 @@ onPut y t v = guarded (node-is-up y ∷ []) Refuse (accept None Handed (NodeTo (
 unfoldable pub discards : Decision
 discards = accept None Discarded Neither (One Nothing)
 
--- 'the cell empties', and 'the outcome is heard'; x is the console with the answer taken in, and how a reply compared, or none of an ack
+-- 'the cell empties', and 'the outcome is heard'; x is the console with the answer taken in, and how says how a reply compared: none for an ack
 unfoldable pub heard : Compared → Console → Decision
 heard how x = accept how Heard (ConsoleTo x) (One Nothing)
 
@@ -102,11 +101,3 @@ delivered formed σ c k x y f =
     (is-well-formed formed ∷ has-console σ c ∷ has-node σ k ∷ holds-frame f ∷ [])
     Refuse
     (cond (isWithdrawn x f) discards (onFrame σ c k x y f))
-
--- where a delivery may compare tags: 'only where both console numbers are below 8'; and a byte has room for k
-pub record Comparable (k : ℕ) (x : Console) (y : Node) (f : Frame) : Type 0 where
-  pub k-8 : k < 8
-  pub best : x .best .console < maxConsoles
-  pub node : y .tag .console < maxConsoles
-  pub reply : (t : Tag) (v : ℕ) → f ≡ Reply t v → t .console < maxConsoles
-  pub put : (t : Tag) (v : ℕ) → f ≡ Put t v → t .console < maxConsoles

@@ -1,5 +1,5 @@
--- The questions of document 01, 'Questions put before each step', and those that document 02 adds, each with the number of its refusal.
--- The steps say which they ask. 11 to 13 are those of lines and verbs, and stand there.
+-- The questions of document 01, 'Questions put before each step', and node up's (document 02, Paper 2), each with the number of its refusal:
+-- this is the table of the steps' refusals. The steps say which they ask. 11 to 13 are those of lines and verbs, and stand there.
 use Prim.Native.Nat.{ℕ}
 use mathlib.Core.Bool.{Bool, cond, not}
 use mathlib.Core.List.{List, [], _∷_}

@@ -96,13 +96,15 @@ pub fn rise(formed: bool, setup: Setup, k: NodeId, y: Node) -> Decision
     done(Part::NodeTo(set_up(y, true)), Sent::Keep)
 }
 
+// The same of a step that takes no reply in, with outcome done.
 fn done(part: Part, sent: Sent) -> Decision
     ensures { λ r. ⌜ r ≡ accept Compared.None Outcome.Done part sent ⌝ }
 {
-    accepted(Compared::None, Outcome::Done, part, sent)
+    accept(Compared::None, Outcome::Done, part, sent)
 }
 
-pub(crate) fn accepted(how: Compared, outcome: Outcome, part: Part, sent: Sent) -> Decision
+// A step that is accepted, and what it changes.
+pub(crate) fn accept(how: Compared, outcome: Outcome, part: Part, sent: Sent) -> Decision
     ensures { λ r. ⌜ r ≡ accept how outcome part sent ⌝ }
 {
     Decision::Accept(Change {

@@ -6,7 +6,8 @@ ghost use lib.Dec.{ltb};
 ghost use Rattle.parts.specs.Finite.{_implies_};
 ghost use Rattle.parts.specs.Limits.{maxConsoles, maxTs};
 ghost use Rattle.parts.specs.Parts.{writes};
-ghost use Rattle.changes.specs.Deliver.{Comparable, isWithdrawn, onAsk, onPut, discards, heard, finished, finishesEarly, turned, replied, onReply, acknowledged, onAck, onFrame, delivered};
+ghost use Rattle.changes.specs.Comparable.{Comparable};
+ghost use Rattle.changes.specs.Deliver.{isWithdrawn, onAsk, onPut, discards, heard, finished, finishesEarly, turned, replied, onReply, acknowledged, onAck, onFrame, delivered};
 use crate::Decision;
 use crate::Part;
 use crate::Sent;
@@ -14,7 +15,7 @@ use crate::TakenIn;
 use crate::consoles::awaits_ack;
 use crate::consoles::awaits_reply;
 use crate::consoles::rest;
-use crate::decisions::accepted;
+use crate::decisions::accept;
 use crate::hearing::hear_ack;
 use crate::hearing::hear_reply;
 use crate::nodes::take_put;
@@ -39,7 +40,7 @@ use parts::Tag;
 use parts::answered::set_size;
 
 // The frame f of console c, which is x, and node k, which is y, is delivered; formed says whether the board is well formed. Promised
-// where the tags may be compared, if it is and has such a console and such a node.
+// if the tags may be compared; that need hold only on a well-formed board that has console c and node k.
 pub fn delivered(
     formed: bool,
     setup: Setup,
@@ -100,7 +101,7 @@ fn deliver_ask(y: Node) -> Decision
         return Decision::Refuse(NODE_IS_DOWN);
     }
     let t = y.tag;
-    accepted(
+    accept(
         Compared::None,
         Outcome::Handed,
         Part::Neither,
@@ -114,7 +115,7 @@ fn deliver_put(y: Node, t: Tag, v: u32) -> Decision
     if !y.up {
         return Decision::Refuse(NODE_IS_DOWN);
     }
-    accepted(
+    accept(
         Compared::None,
         Outcome::Handed,
         Part::NodeTo(take_put(y, t, v)),
@@ -200,7 +201,7 @@ fn turn(c: ConsoleId, how: Compared, x: Console) -> Decision
 {
     let z = tell(c, x);
     let t = z.best;
-    accepted(
+    accept(
         how,
         Outcome::Turned,
         Part::ConsoleTo(z),
@@ -212,7 +213,7 @@ fn turn(c: ConsoleId, how: Compared, x: Console) -> Decision
 fn hear(how: Compared, x: Console) -> Decision
     ensures { λ r. ⌜ r ≡ heard how x ⌝ }
 {
-    accepted(
+    accept(
         how,
         Outcome::Heard,
         Part::ConsoleTo(x),
@@ -225,7 +226,7 @@ fn finish(how: Compared, x: Console) -> Decision
     ensures { λ r. ⌜ r ≡ finished how x ⌝ }
 {
     let t = x.best;
-    accepted(
+    accept(
         how,
         Outcome::Finished(t, x.value),
         Part::ConsoleTo(rest(State::Idle, x)),
@@ -237,7 +238,7 @@ fn finish(how: Compared, x: Console) -> Decision
 fn discard() -> Decision
     ensures { λ r. ⌜ r ≡ discards ⌝ }
 {
-    accepted(
+    accept(
         Compared::None,
         Outcome::Discarded,
         Part::Neither,

@@ -1,4 +1,4 @@
-// How the steps change a node and a console, and what a delivery comes to. These functions are for the board's steps.
+// How the steps change a node and a console, and what each step but fresh comes to. These functions are for the board's steps.
 use parts::Compared;
 use parts::Console;
 use parts::Frame;
@@ -18,7 +18,8 @@ pub enum Part {
     NodeTo(Node),
 }
 
-// What a step puts into the cells: nothing, a frame into the cell of its console and node, or one into all n of its console's.
+// What becomes of the cells: they stay, or a frame goes into the cell of the step's console and node, or into all n of its console's. Where a cell
+// empties, that frame is Nothing.
 pub enum Sent {
     Keep,
     One(Frame),

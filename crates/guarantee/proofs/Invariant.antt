@@ -72,7 +72,7 @@ module _ {σ : Setup} {place : ℕ} {b b′ : Board} where
   open-before : (c : ℕ) (y x : Op) → Moves σ place b b′ x y → isOpenAt c y ≡ true → isOpenAt c x ≡ true
   open-before c y x mv e = both (ap isOpen (mv .was-open (open-is (y .status) (and-left (isOpen (y .status)) _ e)))) (rw (mv .same-console) at (and-right (isOpen (y .status)) _ e))
 
-  pub alone-moves : {l r : List Op} → Each (Moves σ place b b′) l r → (c : ℕ) → tally (isOpenAt c) r ≤ tally (isOpenAt c) l
+  alone-moves : {l r : List Op} → Each (Moves σ place b b′) l r → (c : ℕ) → tally (isOpenAt c) r ≤ tally (isOpenAt c) l
   alone-moves es c = tally-le (isOpenAt c) (isOpenAt c) (open-before c) (each-flip es)
 
 -- ---- a step after which the log's operations have moved, and none has begun

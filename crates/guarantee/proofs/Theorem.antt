@@ -1,6 +1,6 @@
 -- Demand 3. The invariant holds after every run, and gives each part of the claim.
 use Prim.Native.Nat.{ℕ, max, _+_, _*_, _≤_}
-use mathlib.Core.Path.{ap, _≡_, _∙_}
+use mathlib.Core.Path.{ap, _≡_}
 use native.Mathlib.Omega.{arith}
 use Rattle.parts.specs.Finite.{one}
 use Rattle.parts.specs.Parts.{place}

@@ -1,7 +1,7 @@
 -- Demand 3, as document 01's 'What demand 3 speaks of' and document 02's Papers 2 and 4 read it: one claim about every run from
 -- a fresh board of any allowed size, under either release. proofs/Theorem.antt proves it.
 use Prim.Native.Nat.{ℕ, _+_, _*_, _≤_, _<_}
-use mathlib.Core.Bool.{true, false}
+use mathlib.Core.Bool.{true}
 use mathlib.Core.List.{List, [], _∷_}
 use mathlib.Core.Logic.{_⊎_}
 use mathlib.Core.Path.{_≡_}
@@ -61,7 +61,7 @@ pub record Demand3 (σ : Setup) (r : Run) : Type 0 where
   -- 'The consoles with an operation open are exactly the waiting ones'
   pub open-waits : (c : ℕ) → HasOpen r c → Waits σ r c
   pub waits-open : (c : ℕ) → Waits σ r c → HasOpen r c
-  -- and no console has two
+  -- and no console has two, counted in the log
   pub one-open : (c : ℕ) → tally (isOpenAt c) (r .ops) ≤ 1
   -- 'every console with an operation open has a frame that can be delivered, if a majority of the machines is up'; 'the
   -- progress rule's majority is now q or more machines up at the list's end'

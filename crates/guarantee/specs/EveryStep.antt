@@ -16,7 +16,8 @@ use Rattle.guarantee.specs.Claim.{Any}
 
 -- ---- demand 1
 
--- the refusals that a step may give (document 01, 'Questions put before each step'; node up's: document 02, Paper 2)
+-- the refusals that a step may give (document 01, 'Questions put before each step'; node up's: document 02, Paper 2), written out, so that the
+-- claim does not go by the steps' own lists. That each of them is given is seen in board's OrderRuns
 abbrev pub mayRefuse : Step → List ℕ
 mayRefuse (BeginRead c) = 1 ∷ 4 ∷ 6 ∷ 7 ∷ []
 mayRefuse (BeginWrite c v) = 1 ∷ 4 ∷ 6 ∷ 7 ∷ []
@@ -33,7 +34,7 @@ pub record Numbered (b : Board) (numbers : List ℕ) (a : Answer) : Type 0 where
   pub refused-number : accepted (a .outcome) ≡ false → Any (λ r. a .refusal ≡ r) numbers
   pub accepted-number : accepted (a .outcome) ≡ true → a .refusal ≡ 0
 
--- 'every step on every input, a mangled board included'
+-- 'every step on every input, a mangled board included'; of fresh, which is given no board, below
 abbrev pub Demand1 : Type 0
 Demand1 = (b : Board) (s : Step) → Numbered b (mayRefuse s) (step b s)
 

@@ -75,7 +75,7 @@ delivering i Turned x = turning x
 delivering i (Finished t v) x = finishing i t v x
 delivering i Discarded x = counted x
 
--- the operation is open, and console c's
+-- whether the operation is open, and console c's
 abbrev pub isOpenAt : ℕ → Op → Bool
 isOpenAt c x = isOpen (x .status) && eqb (x .console) c
 

@@ -45,7 +45,7 @@ byte-formed s x h = go (eqb x lfByte)
     go false = h
 
 -- whatever bytes are taken
-pub bytes-formed : (s : Session) (bytes : List ℕ) → wellFormed (s .board) ≡ true → wellFormed (afterBytes s bytes .board) ≡ true
+bytes-formed : (s : Session) (bytes : List ℕ) → wellFormed (s .board) ≡ true → wellFormed (afterBytes s bytes .board) ≡ true
 unfolding afterBytes
 bytes-formed s [] h = h
 bytes-formed s (x ∷ bytes) h = bytes-formed (afterByte s x) bytes (byte-formed s x h)

@@ -83,8 +83,9 @@ startRack = record { board = atStart .board; number = atStart .number; held = 0;
 abbrev pub part : ℕ → ℕ → List ℕ → List ℕ
 part i j chunk = take (j - i) (drop i chunk)
 
--- the run s has taken these bytes, from place t of the chunk on: where it stands after them as r, how many bytes are taken and held, and what it
--- has written into the output from place p on. The line that holds what is held was line, and is line'; the output was out, and is out'
+-- the run s has taken these bytes, from place t of the chunk on: where it stands after them as r, how many bytes are taken and held, and what
+-- it has written into the output from place p on. The line that holds what is held was line, and is line'; what stands there beyond it is
+-- left open. The output was out, and is out'
 pub record Taken (t p : ℕ) (s : Rack) (line out bytes : List ℕ) (r : Rack) (line' out' : List ℕ) : Type 0 where
   pub session : sessionOf r line' ≡ afterBytes (sessionOf s line) bytes
   pub held : r .held ≡ length (afterBytes (sessionOf s line) bytes .held)

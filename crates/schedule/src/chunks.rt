@@ -52,7 +52,8 @@ fn take_line(s: Rack, formed: bool, line: &mut [u8], chunk: &[u8], out: &mut [u8
 }
 
 // Takes the whole chunk. The caller has seen that the line held has its 66 bytes, and that the output has room for a line at every
-// byte. Question 1 is asked once: a well-formed board stays so. If it is not, a line may still make a fresh one.
+// byte. Question 1 is asked once: a well-formed board stays so. While it is not, question 1 is asked after each line, since a fresh may have
+// made another board.
 fn take_all(s: Rack, line: &mut [u8], chunk: &[u8], out: &mut [u8]) -> Rack
     requires { ⌜ (length (now line) ≡ heldBytes) × (s .held ≤ heldBytes) × (length (now chunk) * lineBytes ≤ length (now out)) ⌝ }
     ensures { λ r. ⌜ Taken 0 0 s (now (line .entry)) (now (out .entry)) (now (chunk .entry)) r (now (line .exit)) (now (out .exit)) ⌝ }

@@ -6,7 +6,6 @@ use board::Answer;
 use board::Board;
 use board::refusals::NO_SUCH_VERB;
 use parts::ConsoleId;
-use parts::Kind;
 use parts::NodeId;
 
 // The step with this number, put to the board with its two numbers. A step that has no use for the second ignores it.
@@ -22,8 +21,8 @@ pub fn step_known(b: Board, formed: bool, verb: u32, x: u32, y: u32) -> Answer
 {
     match verb {
         0 => Board::fresh(x, y),
-        1 => b.begin_known(formed, ConsoleId(x), Kind::Read, 0),
-        2 => b.begin_known(formed, ConsoleId(x), Kind::Write, y),
+        1 => b.begin_read_known(formed, ConsoleId(x)),
+        2 => b.begin_write_known(formed, ConsoleId(x), y),
         3 => b.deliver_known(formed, ConsoleId(x), NodeId(y)),
         4 => b.node_down_known(formed, NodeId(x)),
         5 => b.console_down_known(formed, ConsoleId(x)),

@@ -15,11 +15,11 @@ le-ne-lt n z h e = omega arith
 fresh-requires : tie.Need-fresh-requires
 fresh-requires c κs = search needs
 
-begin-known-requires : tie.Need-begin-known-requires
-begin-known-requires c κs = search needs
+begin-read-known-requires : tie.Need-begin-read-known-requires
+begin-read-known-requires c κs = search needs
 
-begin-known-requires-2 : tie.Need-begin-known-requires-2
-begin-known-requires-2 c κs = search needs
+begin-write-known-requires : tie.Need-begin-write-known-requires
+begin-write-known-requires c κs = search needs
 
 deliver-known-requires : tie.Need-deliver-known-requires
 deliver-known-requires c κs = search needs
@@ -42,11 +42,11 @@ returns c = λ _. rw (c .before .match .keys1) (c .fresh .ensures)
 
 returns-2 : tie.Need-returns-2
 unfolding stepOf
-returns-2 c = λ e. rw (c .before .match .keys2) (c .begin-known .ensures e)
+returns-2 c = λ e. rw (c .before .match .keys2) (c .begin-read-known .ensures e)
 
 returns-3 : tie.Need-returns-3
 unfolding stepOf
-returns-3 c = λ e. rw (c .before .match .keys3) (c .begin-known2 .ensures e)
+returns-3 c = λ e. rw (c .before .match .keys3) (c .begin-write-known .ensures e)
 
 returns-4 : tie.Need-returns-4
 unfolding stepOf
@@ -72,8 +72,8 @@ step-known-spec =
     tie.close
     (tie.spec
     fresh-requires
-    begin-known-requires
-    begin-known-requires-2
+    begin-read-known-requires
+    begin-write-known-requires
     deliver-known-requires
     node-down-known-requires
     console-down-known-requires

@@ -11,12 +11,12 @@ returns : tie.Need-returns
 unfolding onAsk
 returns c = sym (guarded-no _ _ _ _ (said-no refl (c .if1 .taken)))
 
-accepted-requires : tie.Need-accepted-requires
-accepted-requires c κs = search needs
+accept-requires : tie.Need-accept-requires
+accept-requires c κs = search needs
 
 returns-2 : tie.Need-returns-2
 unfolding onAsk
-returns-2 c = c .accepted .ensures ∙ sym (guarded-yes _ _ _ _ (said-yes refl (c .before .before .if1 .left)) ∙ guarded-end _ _)
+returns-2 c = c .accept .ensures ∙ sym (guarded-yes _ _ _ _ (said-yes refl (c .before .before .if1 .left)) ∙ guarded-end _ _)
 
 pub deliver-ask-spec : {M : Type 1} → statement M
-deliver-ask-spec = tie.close (tie.spec returns accepted-requires returns-2)
+deliver-ask-spec = tie.close (tie.spec returns accept-requires returns-2)

@@ -21,12 +21,12 @@ returns c = λ _ _. sym (guarded-no _ _ _ _ (said-no refl (c .if1 .taken)))
 take-put-requires : tie.Need-take-put-requires
 take-put-requires c κs = search needs
 
-accepted-requires : tie.Need-accepted-requires
-accepted-requires c κs = search needs
+accept-requires : tie.Need-accept-requires
+accept-requires c κs = search needs
 
 returns-2 : tie.Need-returns-2
 unfolding onPut
-returns-2 c = λ h g. c .accepted .ensures ∙ ap (λ (y : Node). accept None Handed (NodeTo y) (One Ack)) (c .before .take-put .ensures h g) ∙ sym (guarded-yes _ _ _ _ (said-yes refl (c .before .before .if1 .left)) ∙ guarded-end _ _)
+returns-2 c = λ h g. c .accept .ensures ∙ ap (λ (y : Node). accept None Handed (NodeTo y) (One Ack)) (c .before .take-put .ensures h g) ∙ sym (guarded-yes _ _ _ _ (said-yes refl (c .before .before .if1 .left)) ∙ guarded-end _ _)
 
 pub deliver-put-spec : {M : Type 1} → statement M
-deliver-put-spec = tie.close (tie.spec returns take-put-requires accepted-requires returns-2)
+deliver-put-spec = tie.close (tie.spec returns take-put-requires accept-requires returns-2)

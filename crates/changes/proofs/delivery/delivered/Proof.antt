@@ -1,8 +1,7 @@
 -- Questions 1, 4, 5 and 8, then whether the frame is withdrawn, then the frame.
 use borrow.Author.Needs.{needs}
 use borrow.Author.Tests.{lt-ltb, le-ltb, not-true, not-false}
-use mathlib.Core.Path.{sym, ap, _∙_}
-use mathlib.Core.Bool.{not}
+use mathlib.Core.Path.{sym, _∙_}
 use Rattle.changes.specs.Questions.{guarded}
 use Rattle.changes.specs.Deliver.{delivered}
 use Rattle.changes.proofs.delivery.delivered.Statement.{statement}

@@ -4,12 +4,12 @@ use Rattle.changes.specs.Deliver.{discards}
 use Rattle.changes.proofs.delivery.discard.Statement.{statement}
 use Rattle.changes.proofs.delivery.discard.Tie as tie
 
-accepted-requires : tie.Need-accepted-requires
-accepted-requires c κs = search needs
+accept-requires : tie.Need-accept-requires
+accept-requires c κs = search needs
 
 returns : tie.Need-returns
 unfolding discards
-returns c = c .accepted .ensures
+returns c = c .accept .ensures
 
 pub discard-spec : {M : Type 1} → statement M
-discard-spec = tie.close (tie.spec accepted-requires returns)
+discard-spec = tie.close (tie.spec accept-requires returns)

@@ -7,12 +7,12 @@ use Rattle.changes.proofs.delivery.finish.Tie as tie
 rest-requires : tie.Need-rest-requires
 rest-requires c κs = search needs
 
-accepted-requires : tie.Need-accepted-requires
-accepted-requires c κs = search needs
+accept-requires : tie.Need-accept-requires
+accept-requires c κs = search needs
 
 returns : tie.Need-returns
 unfolding finished
-returns c = rw (c .accepted .ensures, c .before .rest .ensures)
+returns c = rw (c .accept .ensures, c .before .rest .ensures)
 
 pub finish-spec : {M : Type 1} → statement M
-finish-spec = tie.close (tie.spec rest-requires accepted-requires returns)
+finish-spec = tie.close (tie.spec rest-requires accept-requires returns)

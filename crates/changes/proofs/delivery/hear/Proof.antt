@@ -1,15 +1,15 @@
--- The cell empties: as the definition says.
+-- The cell empties, and the console is x: as the definition says.
 use borrow.Author.Needs.{needs}
 use Rattle.changes.specs.Deliver.{heard}
 use Rattle.changes.proofs.delivery.hear.Statement.{statement}
 use Rattle.changes.proofs.delivery.hear.Tie as tie
 
-accepted-requires : tie.Need-accepted-requires
-accepted-requires c κs = search needs
+accept-requires : tie.Need-accept-requires
+accept-requires c κs = search needs
 
 returns : tie.Need-returns
 unfolding heard
-returns c = c .accepted .ensures
+returns c = c .accept .ensures
 
 pub hear-spec : {M : Type 1} → statement M
-hear-spec = tie.close (tie.spec accepted-requires returns)
+hear-spec = tie.close (tie.spec accept-requires returns)

@@ -3,7 +3,6 @@ use mathlib.Core.Path.{ap}
 use mathlib.Core.Bool.{not}
 use borrow.Author.Needs.{needs}
 use Rattle.parts.proofs.FiniteLaws.{said-no, said-yes}
-use Rattle.changes.specs.Deliver.{isWithdrawn}
 use Rattle.changes.proofs.delivery.is_withdrawn.Statement.{statement}
 use Rattle.changes.proofs.delivery.is_withdrawn.Tie as tie
 

@@ -7,12 +7,12 @@ use Rattle.changes.proofs.delivery.turn.Tie as tie
 tell-requires : tie.Need-tell-requires
 tell-requires c κs = search needs
 
-accepted-requires : tie.Need-accepted-requires
-accepted-requires c κs = search needs
+accept-requires : tie.Need-accept-requires
+accept-requires c κs = search needs
 
 returns : tie.Need-returns
 unfolding turned
-returns c = λ h. rw (c .accepted .ensures, c .before .before .tell .ensures h)
+returns c = λ h. rw (c .accept .ensures, c .before .before .tell .ensures h)
 
 pub turn-spec : {M : Type 1} → statement M
-turn-spec = tie.close (tie.spec tell-requires accepted-requires returns)
+turn-spec = tie.close (tie.spec tell-requires accept-requires returns)

@@ -1,5 +1,4 @@
 -- By whether the step was accepted.
-use mathlib.Core.Path.{sym}
 use borrow.Author.Needs.{needs}
 use Rattle.parts.proofs.FiniteLaws.{said-no, said-yes}
 use Rattle.schedule.specs.Schedule.{boardAfter}
