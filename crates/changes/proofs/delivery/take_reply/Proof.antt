@@ -45,7 +45,9 @@ returns-4 : tie.Need-returns-4
 unfolding replied
 returns-4 c =
     let next = said-yes (c .before .before .has-next .ensures) (c .before .if3 .left) in
-    simp (sym (c .before .before .before .before .before .before .before .set-size .ensures), sym (c .before .before .before .before .before .before .ask-size .ensures), le-ltb _ _ (c .before .before .before .before .before .if1 .left), sym (c .before .before .before .before .finishes-early .ensures) ∙ c .before .before .before .if2 .left) (c .turn .ensures (λ w. ltb-true _ _ (implied _ _ next w)) ∙ sym (guarded-yes _ _ _ _ next ∙ guarded-end _ _))
+    let early = c .before .before .before in
+    let enough = early .before .before in
+    simp (sym (enough .before .before .set-size .ensures), sym (enough .before .ask-size .ensures), le-ltb _ _ (enough .if1 .left), sym (early .before .finishes-early .ensures) ∙ early .if2 .left) (c .turn .ensures (λ w. ltb-true _ _ (implied _ _ next w)) ∙ sym (guarded-yes _ _ _ _ next ∙ guarded-end _ _))
 
 pub take-reply-spec : {M : Type 1} → statement M
 take-reply-spec =

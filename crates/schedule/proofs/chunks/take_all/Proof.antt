@@ -57,7 +57,8 @@ loop-less c = search needs
 
 loop-again : tie.Need-loop-again Inv-loop μ-loop
 loop-again c =
-    let taken = c .before .before .before .before .before .before .before in
+    let asked = c .before .before in
+    let taken = asked .before .before .before .before .before in
     let turn = taken .before .before .before .before .before in
     let le : turn .loop .r .took ≤ taken .take-line .result .took = omega arith in (
       omega arith,

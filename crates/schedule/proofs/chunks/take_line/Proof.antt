@@ -76,8 +76,9 @@ next-number-requires c κs = search needs
 add-t13 : tie.Need-add-t13
 add-t13 c =
     let ran = c .before .before .before .before .before in
-    let held = ran .before .before .before .before .before .before .before in
-    record { fits = omega (arith, held .before .before .before .before .before .before .before .good .1 .1 .1 .0) }
+    let held = ran .before .before .before .before .before in
+    let found = held .before .before .before .before in
+    record { fits = omega (arith, found .before .before .before .before .before .good .1 .1 .1 .0) }
 
 same-length-2 : tie.Need-same-length-2
 same-length-2 c = search needs
