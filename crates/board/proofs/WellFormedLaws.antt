@@ -10,8 +10,8 @@ use Rattle.parts.specs.declared.Tag.{Tag}
 use Rattle.parts.specs.declared.Setup.{Setup}
 use Rattle.parts.specs.Limits.{maxTs}
 use Rattle.parts.proofs.FiniteLaws.{and-left, and-right, every-at}
-use Rattle.checks.specs.Clauses.{nodesAllowed, consolesAllowed, setupOk, tagOk, nodeOk, nodesOk, markOk, consoleOk, consolesOk, frameOk, cellOk, rowOk, cellsOk}
-use Rattle.changes.specs.Comparable.{Comparable}
+use Rattle.well_formed.specs.Clauses.{nodesAllowed, consolesAllowed, setupOk, tagOk, nodeOk, nodesOk, markOk, consoleOk, consolesOk, frameOk, cellOk, rowOk, cellsOk}
+use Rattle.decisions.specs.Comparable.{Comparable}
 use Rattle.board.specs.declared.Board.{Board}
 use Rattle.board.specs.Boards.{nodeAt, consoleAt, frameAt}
 use Rattle.board.specs.WellFormed.{wellFormed}

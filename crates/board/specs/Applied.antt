@@ -1,12 +1,12 @@
--- What is decided of console c and node k (changes' Decisions and Deliver), done on the board. A step of a console alone names no node, and
+-- What is decided of console c and node k (decisions/Steps and Deliver), done on the board. A step of a console alone names no node, and
 -- one of a node alone no console: 0 stands for the number, and what is decided of such a step does not touch the other part.
 use Prim.Native.Nat.{ℕ}
-use Rattle.changes.specs.declared.Part.{Part}
-use Rattle.changes.specs.declared.Part.the-variants.{Neither, ConsoleTo, NodeTo}
-use Rattle.changes.specs.declared.Sent.{Sent}
-use Rattle.changes.specs.declared.Sent.the-variants.{Keep, One, Row}
-use Rattle.changes.specs.declared.Decision.{Decision}
-use Rattle.changes.specs.declared.Decision.the-variants.{Refuse, Accept}
+use Rattle.decisions.specs.declared.Part.{Part}
+use Rattle.decisions.specs.declared.Part.the-variants.{Neither, ConsoleTo, NodeTo}
+use Rattle.decisions.specs.declared.Sent.{Sent}
+use Rattle.decisions.specs.declared.Sent.the-variants.{Keep, One, Row}
+use Rattle.decisions.specs.declared.Decision.{Decision}
+use Rattle.decisions.specs.declared.Decision.the-variants.{Refuse, Accept}
 use Rattle.board.specs.declared.Board.{Board}
 use Rattle.board.specs.declared.Answer.{Answer}
 use Rattle.board.specs.Boards.{withNode, withConsole, withFrame, withRow}

@@ -8,7 +8,7 @@ use Rattle.parts.specs.declared.Frame.the-variants.{Nothing, Put, Ack}
 use Rattle.parts.specs.declared.Release.the-variants.{One}
 use Rattle.parts.specs.declared.State.the-variants.{Down}
 use Rattle.parts.specs.Parts.{freshNode, idleConsole}
-use Rattle.changes.specs.Changes.{rests, withUp}
+use Rattle.decisions.specs.Changes.{rests, withUp}
 use Rattle.board.specs.declared.Board.{Board}
 use Rattle.board.specs.Boards.{withNode, withConsole, freshBoard}
 use Rattle.board.specs.Steps.{setupOf}

@@ -1,6 +1,6 @@
--- Deliver (document 01, 'The steps'): what it comes to is decided in changes' Deliver, by one console, one node and one frame.
+-- Deliver (document 01, 'The steps'): what it comes to is decided in decisions/Deliver, by one console, one node and one frame.
 use Prim.Native.Nat.{ℕ}
-use Rattle.changes.specs.Deliver.{delivered}
+use Rattle.decisions.specs.Deliver.{delivered}
 use Rattle.board.specs.declared.Board.{Board}
 use Rattle.board.specs.declared.Answer.{Answer}
 use Rattle.board.specs.Boards.{nodeAt, consoleAt, frameAt}

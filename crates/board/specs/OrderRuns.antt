@@ -20,12 +20,12 @@ use Rattle.parts.specs.declared.Outcome.the-variants.{Done}
 use Rattle.parts.specs.declared.Compared.the-variants.{None}
 use Rattle.parts.specs.Tags.{zeroTag}
 use Rattle.parts.specs.Parts.{freshNode, idleConsole, cellOf}
-use Rattle.changes.specs.declared.Part.the-variants.{ConsoleTo}
-use Rattle.changes.specs.declared.Sent.the-variants.{Row}
-use Rattle.changes.specs.declared.Decision.{Decision}
-use Rattle.changes.specs.declared.Decision.the-variants.{Refuse}
-use Rattle.changes.specs.Decisions as decisions
-use Rattle.changes.specs.Decisions.{accept}
+use Rattle.decisions.specs.declared.Part.the-variants.{ConsoleTo}
+use Rattle.decisions.specs.declared.Sent.the-variants.{Row}
+use Rattle.decisions.specs.declared.Decision.{Decision}
+use Rattle.decisions.specs.declared.Decision.the-variants.{Refuse}
+use Rattle.decisions.specs.Steps as decisions
+use Rattle.decisions.specs.Steps.{accept}
 use Rattle.board.specs.declared.Board.{Board}
 use Rattle.board.specs.Steps.{setupOf}
 use Rattle.board.specs.PRuns.{NodeOf, CellOf, Whole, Holds, Frames, Is, Line, _gives_, PRun, tag, refused, done, handed, heard, turned, finished, discarded, fresh, read, write, deliver, nodeDown, onThree, p2-steps, p3-steps, asksTwo, run, blank, p9-board}

@@ -1,5 +1,5 @@
 -- The steps but for deliver (document 01, 'The steps'): fresh, begin read, begin write, node down, console down; and node up
--- (document 02, Paper 2). Each but fresh is what changes' Decisions says of its console or node, its questions with it, done on the board.
+-- (document 02, Paper 2). Each but fresh is what decisions/Steps says of its console or node, its questions with it, done on the board.
 use Prim.Native.Nat.{ℕ}
 use mathlib.Core.List.{[], _∷_}
 use Rattle.parts.specs.declared.Kind.{Kind}
@@ -7,8 +7,8 @@ use Rattle.parts.specs.declared.Kind.the-variants.{Read, Write}
 use Rattle.parts.specs.declared.Release.{Release}
 use Rattle.parts.specs.declared.Release.the-variants.{One}
 use Rattle.parts.specs.declared.Setup.{Setup}
-use Rattle.changes.specs.Questions.{guarded, has-allowed-nodes, has-allowed-consoles}
-use Rattle.changes.specs.Decisions.{begins, ends, falls, rises}
+use Rattle.decisions.specs.Questions.{guarded, has-allowed-nodes, has-allowed-consoles}
+use Rattle.decisions.specs.Steps.{begins, ends, falls, rises}
 use Rattle.board.specs.declared.Board.{Board}
 use Rattle.parts.specs.declared.Outcome.the-variants.{Done}
 use Rattle.board.specs.declared.Answer.{Answer}

@@ -2,10 +2,10 @@
 ghost use mathlib.Core.Path.{_≡_};
 ghost use Rattle.board.specs.WellFormed.{wellFormed};
 use crate::Board;
-use checks::cells::are_cells_ok;
-use checks::consoles::are_consoles_ok;
-use checks::nodes::are_nodes_ok;
-use checks::ranges::is_setup_ok;
+use well_formed::cells::are_cells_ok;
+use well_formed::consoles::are_consoles_ok;
+use well_formed::nodes::are_nodes_ok;
+use well_formed::ranges::is_setup_ok;
 
 impl Board {
     // Whether the board is well formed, on any board whatever.

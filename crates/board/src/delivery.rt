@@ -4,7 +4,7 @@ ghost use Rattle.board.specs.WellFormed.{wellFormed};
 ghost use Rattle.board.specs.Deliver.{deliver};
 use crate::Answer;
 use crate::Board;
-use changes::delivery::delivered;
+use decisions::delivery::delivered;
 use parts::ConsoleId;
 use parts::NodeId;
 

@@ -1,5 +1,5 @@
 // The board: one register copied on n nodes, its m consoles, and every frame in flight between them.
-pub use changes::refusals;
+pub use decisions::refusals;
 pub use parts::Cell;
 pub use parts::Compared;
 pub use parts::Console;

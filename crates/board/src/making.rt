@@ -7,8 +7,6 @@ use crate::Answer;
 use crate::Board;
 use crate::refusals::BAD_CONSOLE_COUNT;
 use crate::refusals::BAD_NODE_COUNT;
-use checks::ranges::is_console_count;
-use checks::ranges::is_node_count;
 use parts::CELLS;
 use parts::CONSOLES;
 use parts::Cell;
@@ -21,6 +19,8 @@ use parts::Release;
 use parts::Setup;
 use parts::State;
 use parts::Tag;
+use well_formed::ranges::is_console_count;
+use well_formed::ranges::is_node_count;
 
 impl Board {
     pub const MAX_NODES: u32 = parts::MAX_NODES;

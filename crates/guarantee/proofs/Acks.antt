@@ -12,7 +12,7 @@ use Rattle.parts.specs.declared.Frame.{Frame}
 use Rattle.parts.specs.declared.Frame.the-variants.{Ack, Nothing}
 use Rattle.parts.specs.declared.Outcome.the-variants.{Heard}
 use Rattle.parts.specs.declared.Setup.{Setup}
-use Rattle.changes.specs.Changes.{acked}
+use Rattle.decisions.specs.Changes.{acked}
 use Rattle.board.specs.Answers.{answer}
 use Rattle.board.specs.Boards.{consoleAt, frameAt, withConsole, withFrame}
 use Rattle.board.specs.declared.Board.{Board}

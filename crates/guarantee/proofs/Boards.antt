@@ -15,7 +15,7 @@ use Rattle.parts.specs.declared.Node.{Node}
 use Rattle.parts.specs.declared.Setup.{Setup}
 use Rattle.parts.specs.declared.State.{State}
 use Rattle.parts.specs.declared.Tag.{Tag}
-use Rattle.checks.specs.Clauses.{cellOk, consoleOk, consolesAllowed, frameOk, isZero, markOk, nodeOk, nodesAllowed, restOk, setupOk, stateOk, tagOk}
+use Rattle.well_formed.specs.Clauses.{cellOk, consoleOk, consolesAllowed, frameOk, isZero, markOk, nodeOk, nodesAllowed, restOk, setupOk, stateOk, tagOk}
 use Rattle.board.specs.Boards.{consoleAt, frameAt, nodeAt, withConsole, withFrame, withNode, withRow}
 use Rattle.board.specs.WellFormed.{wellFormed}
 use Rattle.board.specs.declared.Board.{Board}

@@ -20,8 +20,8 @@ use Rattle.parts.specs.declared.Setup.{Setup}
 use Rattle.parts.specs.declared.State.{State}
 use Rattle.parts.specs.declared.State.the-variants.{Asking, Down, Idle, Telling}
 use Rattle.parts.specs.declared.Tag.{Tag}
-use Rattle.checks.specs.Clauses.{isZero, markOk, restOk, stateOk, tagOk, waitOk, wantedOk}
-use Rattle.changes.specs.Changes.{acked, asks, hears, nextTag, rests, stillAlike, taken, tells}
+use Rattle.well_formed.specs.Clauses.{isZero, markOk, restOk, stateOk, tagOk, waitOk, wantedOk}
+use Rattle.decisions.specs.Changes.{acked, asks, hears, nextTag, rests, stillAlike, taken, tells}
 use Rattle.guarantee.proofs.Sets.{insert-first, insert-small, insert-some, power-pos, size-empty, small-32}
 use Rattle.guarantee.proofs.Tags.{Small, greater-false, greater-true, key}
 use Rattle.guarantee.proofs.Sizes.{Allowed, ask-pos, sizeFor, tell-pos}

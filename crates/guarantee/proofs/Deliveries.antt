@@ -9,7 +9,7 @@ use Rattle.parts.specs.Sizes.{askSize, tellSize}
 use Rattle.parts.specs.declared.Frame.the-variants.{Reply}
 use Rattle.parts.specs.declared.Setup.{Setup}
 use Rattle.parts.specs.declared.Tag.{Tag}
-use Rattle.changes.specs.Changes.{hears, nextTag}
+use Rattle.decisions.specs.Changes.{hears, nextTag}
 use Rattle.board.specs.Answers.{refuse}
 use Rattle.board.specs.Boards.{consoleAt, frameAt}
 use Rattle.board.specs.declared.Answer.{Answer}

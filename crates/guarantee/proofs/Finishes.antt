@@ -10,7 +10,7 @@ use Rattle.parts.specs.declared.Console.{Console}
 use Rattle.parts.specs.declared.Frame.the-variants.{Nothing}
 use Rattle.parts.specs.declared.Setup.{Setup}
 use Rattle.parts.specs.declared.State.the-variants.{Idle}
-use Rattle.changes.specs.Changes.{rests}
+use Rattle.decisions.specs.Changes.{rests}
 use Rattle.board.specs.Boards.{consoleAt, frameAt, nodeAt, withConsole, withFrame}
 use Rattle.board.specs.declared.Board.{Board}
 use Rattle.guarantee.proofs.Tags.{key}

@@ -17,7 +17,7 @@ use Rattle.parts.specs.declared.Frame.{Frame}
 use Rattle.parts.specs.declared.Frame.the-variants.{Nothing}
 use Rattle.parts.specs.declared.Node.{Node}
 use Rattle.parts.specs.declared.Setup.{Setup}
-use Rattle.checks.specs.Clauses.{cellOk, cellsOk, consoleOk, consolesAllowed, consolesOk, nodeOk, nodesAllowed, nodesOk, rowOk, setupOk}
+use Rattle.well_formed.specs.Clauses.{cellOk, cellsOk, consoleOk, consolesAllowed, consolesOk, nodeOk, nodesAllowed, nodesOk, rowOk, setupOk}
 use Rattle.board.proofs.WellFormedLaws.{cell-passes, console-passes, node-passes, setup-part}
 use Rattle.board.specs.Boards.{consoleAt, frameAt, nodeAt, withConsole, withFrame, withNode, withRow}
 use Rattle.board.specs.WellFormed.{wellFormed}

@@ -19,9 +19,9 @@ use Rattle.parts.specs.declared.Node.{Node}
 use Rattle.parts.specs.declared.Setup.{Setup}
 use Rattle.parts.specs.declared.State.the-variants.{Down, Idle}
 use Rattle.parts.specs.declared.Tag.{Tag}
-use Rattle.checks.specs.Clauses.{cellOk, consoleOk, frameOk, markOk, nodeOk, setupOk, stateOk, tagOk, wantedOk}
-use Rattle.changes.specs.Changes.{acked, asks, hears, rests, taken, tells, withUp}
-use Rattle.changes.specs.Questions.{has-allowed-consoles, has-allowed-nodes}
+use Rattle.well_formed.specs.Clauses.{cellOk, consoleOk, frameOk, markOk, nodeOk, setupOk, stateOk, tagOk, wantedOk}
+use Rattle.decisions.specs.Changes.{acked, asks, hears, rests, taken, tells, withUp}
+use Rattle.decisions.specs.Questions.{has-allowed-consoles, has-allowed-nodes}
 use Rattle.board.specs.Boards.{consoleAt, frameAt, freshBoard, nodeAt, withConsole, withFrame, withNode, withRow}
 use Rattle.board.specs.Runs.{BeginRead, BeginWrite, ConsoleDown, Deliver, NodeDown, NodeUp, Step, step}
 use Rattle.board.specs.Steps.{fresh, smallest}

@@ -21,11 +21,11 @@ use Rattle.parts.specs.declared.Frame.the-variants.{Ack, Ask, Nothing, Put, Rep
 use Rattle.parts.specs.declared.Node.{Node}
 use Rattle.parts.specs.declared.Setup.{Setup}
 use Rattle.parts.specs.declared.Tag.{Tag}
-use Rattle.changes.specs.Changes.{acked, awaits, hears, takesIn}
-use Rattle.changes.specs.Deliver.{acknowledged, delivered, discards, finished, finishesEarly, heard, isWithdrawn, onAck, onAsk, onFrame, onPut, onReply, replied, turned}
-use Rattle.changes.specs.Questions.{has-console, has-next-ts, has-node, holds-frame, is-well-formed, node-is-up}
-use Rattle.changes.specs.declared.Decision.{Decision}
-use Rattle.changes.specs.declared.Decision.the-variants.{Accept, Refuse}
+use Rattle.decisions.specs.Changes.{acked, awaits, hears, takesIn}
+use Rattle.decisions.specs.Deliver.{acknowledged, delivered, discards, finished, finishesEarly, heard, isWithdrawn, onAck, onAsk, onFrame, onPut, onReply, replied, turned}
+use Rattle.decisions.specs.Questions.{has-console, has-next-ts, has-node, holds-frame, is-well-formed, node-is-up}
+use Rattle.decisions.specs.declared.Decision.{Decision}
+use Rattle.decisions.specs.declared.Decision.the-variants.{Accept, Refuse}
 use Rattle.board.specs.Boards.{consoleAt, frameAt, nodeAt}
 use Rattle.board.specs.Applied.{applied}
 use Rattle.board.specs.Deliver.{deliver}

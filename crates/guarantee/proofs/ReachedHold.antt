@@ -12,11 +12,11 @@ use Rattle.parts.specs.Sizes.{askSize, majority, tellSize}
 use Rattle.parts.specs.Tags.{compared, greater}
 use Rattle.parts.specs.declared.Release.the-variants.{One, Two}
 use Rattle.parts.specs.declared.Setup.{Setup}
-use Rattle.checks.specs.Clauses.{cellOk, cellsOk, consoleOk, consolesAllowed, consolesOk, frameOk, isZero, markOk, nodeOk, nodesAllowed, nodesOk, restOk, rowOk, setupOk, stateOk, tagOk, waitOk, wantedOk}
-use Rattle.changes.specs.Changes.{acked, asks, awaits, hears, nextTag, rests, stillAlike, taken, takesIn, tells, withUp}
-use Rattle.changes.specs.Decisions.{begins, ends, falls, rises}
-use Rattle.changes.specs.Deliver.{acknowledged, delivered, discards, finished, finishesEarly, heard, onAck, onAsk, onFrame, onPut, onReply, replied, turned}
-use Rattle.changes.specs.Questions.{guarded}
+use Rattle.well_formed.specs.Clauses.{cellOk, cellsOk, consoleOk, consolesAllowed, consolesOk, frameOk, isZero, markOk, nodeOk, nodesAllowed, nodesOk, restOk, rowOk, setupOk, stateOk, tagOk, waitOk, wantedOk}
+use Rattle.decisions.specs.Changes.{acked, asks, awaits, hears, nextTag, rests, stillAlike, taken, takesIn, tells, withUp}
+use Rattle.decisions.specs.Steps.{begins, ends, falls, rises}
+use Rattle.decisions.specs.Deliver.{acknowledged, delivered, discards, finished, finishesEarly, heard, onAck, onAsk, onFrame, onPut, onReply, replied, turned}
+use Rattle.decisions.specs.Questions.{guarded}
 use Rattle.board.specs.Boards.{consoleAt, frameAt, freshBoard, nodeAt, withConsole, withFrame, withNode, withRow}
 use Rattle.board.specs.Applied.{applied, withPart, withSent}
 use Rattle.board.specs.Deliver.{deliver}

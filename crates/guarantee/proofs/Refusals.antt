@@ -16,12 +16,12 @@ use Rattle.parts.specs.declared.Kind.{Kind}
 use Rattle.parts.specs.declared.Kind.the-variants.{Read, Write}
 use Rattle.parts.specs.declared.Node.{Node}
 use Rattle.parts.specs.declared.Setup.{Setup}
-use Rattle.changes.specs.Changes.{acked, awaits, takesIn}
-use Rattle.changes.specs.Decisions.{begins, ends, falls, rises}
-use Rattle.changes.specs.Deliver.{acknowledged, delivered, discards, finished, finishesEarly, heard, isWithdrawn, onAck, onAsk, onFrame, onPut, onReply, replied, turned}
-use Rattle.changes.specs.Questions.{Question, guarded, has-next-ts, node-is-up}
-use Rattle.changes.specs.declared.Decision.{Decision}
-use Rattle.changes.specs.declared.Decision.the-variants.{Accept, Refuse}
+use Rattle.decisions.specs.Changes.{acked, awaits, takesIn}
+use Rattle.decisions.specs.Steps.{begins, ends, falls, rises}
+use Rattle.decisions.specs.Deliver.{acknowledged, delivered, discards, finished, finishesEarly, heard, isWithdrawn, onAck, onAsk, onFrame, onPut, onReply, replied, turned}
+use Rattle.decisions.specs.Questions.{Question, guarded, has-next-ts, node-is-up}
+use Rattle.decisions.specs.declared.Decision.{Decision}
+use Rattle.decisions.specs.declared.Decision.the-variants.{Accept, Refuse}
 use Rattle.board.specs.Answers.{refuse}
 use Rattle.board.specs.Applied.{applied}
 use Rattle.board.specs.Boards.{consoleAt, frameAt, nodeAt}

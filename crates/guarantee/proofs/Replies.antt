@@ -17,8 +17,8 @@ use Rattle.parts.specs.declared.Frame.the-variants.{Nothing, Put, Reply}
 use Rattle.parts.specs.declared.Outcome.the-variants.{Heard, Turned}
 use Rattle.parts.specs.declared.Setup.{Setup}
 use Rattle.parts.specs.declared.Tag.{Tag}
-use Rattle.changes.specs.Changes.{hears, nextTag, tells}
-use Rattle.changes.specs.Deliver.{finishesEarly}
+use Rattle.decisions.specs.Changes.{hears, nextTag, tells}
+use Rattle.decisions.specs.Deliver.{finishesEarly}
 use Rattle.board.specs.Answers.{answerWith}
 use Rattle.board.specs.Boards.{consoleAt, frameAt, nodeAt, withConsole, withFrame, withRow}
 use Rattle.board.specs.declared.Board.{Board}

@@ -18,7 +18,7 @@ use Rattle.parts.specs.declared.Frame.{Frame}
 use Rattle.parts.specs.declared.Frame.the-variants.{Ack, Ask, Nothing, Put, Reply}
 use Rattle.parts.specs.declared.Setup.{Setup}
 use Rattle.parts.specs.declared.Tag.{Tag}
-use Rattle.changes.specs.Changes.{acked, hears, nextTag, stillAlike, tells}
+use Rattle.decisions.specs.Changes.{acked, hears, nextTag, stillAlike, tells}
 use Rattle.guarantee.proofs.Quorums.{Meet, meet}
 use Rattle.guarantee.proofs.Sets.{insert-other, insert-same, insert-small, member-empty, power-pos, size-count, small-32}
 use Rattle.guarantee.proofs.Tags.{Small, greater-false, greater-true, key, same-key}

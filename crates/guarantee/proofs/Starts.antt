@@ -13,8 +13,8 @@ use Rattle.parts.specs.declared.Frame.the-variants.{Ask, Nothing}
 use Rattle.parts.specs.declared.Kind.{Kind}
 use Rattle.parts.specs.declared.Setup.{Setup}
 use Rattle.parts.specs.declared.State.the-variants.{Asking, Down, Idle}
-use Rattle.checks.specs.Clauses.{isZero, markOk, restOk, stateOk, wantedOk}
-use Rattle.changes.specs.Changes.{asks, rests, withUp}
+use Rattle.well_formed.specs.Clauses.{isZero, markOk, restOk, stateOk, wantedOk}
+use Rattle.decisions.specs.Changes.{asks, rests, withUp}
 use Rattle.board.specs.Boards.{consoleAt, frameAt, freshBoard, nodeAt, withConsole, withNode, withRow}
 use Rattle.board.specs.declared.Board.{Board}
 use Rattle.guarantee.proofs.Sets.{member-empty, power-pos}

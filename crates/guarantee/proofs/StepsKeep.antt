@@ -16,8 +16,8 @@ use Rattle.parts.specs.declared.Outcome.{Outcome}
 use Rattle.parts.specs.declared.Outcome.the-variants.{Discarded, Done, Finished, Handed, Heard, Refused, Turned}
 use Rattle.parts.specs.declared.Setup.{Setup}
 use Rattle.parts.specs.declared.State.the-variants.{Down}
-use Rattle.checks.specs.Clauses.{wantedOk}
-use Rattle.changes.specs.Changes.{hears, nextTag, rests, withUp}
+use Rattle.well_formed.specs.Clauses.{wantedOk}
+use Rattle.decisions.specs.Changes.{hears, nextTag, rests, withUp}
 use Rattle.board.specs.Boards.{consoleAt, freshBoard, nodeAt, withConsole, withNode}
 use Rattle.board.specs.Runs.{BeginRead, BeginWrite, ConsoleDown, Deliver, NodeDown, NodeUp, Step, step}
 use Rattle.board.specs.Steps.{fresh}

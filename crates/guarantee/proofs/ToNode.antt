@@ -13,7 +13,7 @@ use Rattle.parts.specs.declared.Outcome.{Outcome}
 use Rattle.parts.specs.declared.Outcome.the-variants.{Discarded, Handed}
 use Rattle.parts.specs.declared.Setup.{Setup}
 use Rattle.parts.specs.declared.Tag.{Tag}
-use Rattle.changes.specs.Changes.{taken}
+use Rattle.decisions.specs.Changes.{taken}
 use Rattle.board.specs.Answers.{answer}
 use Rattle.board.specs.Boards.{consoleAt, frameAt, nodeAt, withFrame, withNode}
 use Rattle.board.specs.declared.Board.{Board}

@@ -22,15 +22,15 @@ use Rattle.parts.specs.declared.Outcome.the-variants.{Discarded, Done, Finished
 use Rattle.parts.specs.declared.Setup.{Setup}
 use Rattle.parts.specs.declared.State.the-variants.{Down, Idle}
 use Rattle.parts.specs.declared.Tag.{Tag}
-use Rattle.checks.specs.Clauses.{consolesAllowed, nodesAllowed}
-use Rattle.changes.specs.Changes.{acked, asks, awaits, hears, rests, taken, takesIn, tells, withUp}
-use Rattle.changes.specs.Decisions.{accept, begins as beginning, ends, falls, rises}
-use Rattle.changes.specs.Deliver.{acknowledged, delivered as decided, discards, finished as finishes, finishesEarly, heard, isWithdrawn, onAck, onAsk, onFrame, onPut, onReply, replied, turned as turning}
-use Rattle.changes.specs.Questions.{Question, console-is-idle, console-is-up, guarded, has-allowed-consoles, has-allowed-nodes, has-console, has-next-ts, has-node, holds-frame, is-well-formed, node-is-down, node-is-up}
-use Rattle.changes.specs.declared.Decision.{Decision}
-use Rattle.changes.specs.declared.Decision.the-variants.{Refuse}
-use Rattle.changes.specs.declared.Part.the-variants.{NodeTo}
-use Rattle.changes.specs.declared.Sent.the-variants.{Keep}
+use Rattle.well_formed.specs.Clauses.{consolesAllowed, nodesAllowed}
+use Rattle.decisions.specs.Changes.{acked, asks, awaits, hears, rests, taken, takesIn, tells, withUp}
+use Rattle.decisions.specs.Steps.{accept, begins as beginning, ends, falls, rises}
+use Rattle.decisions.specs.Deliver.{acknowledged, delivered as decided, discards, finished as finishes, finishesEarly, heard, isWithdrawn, onAck, onAsk, onFrame, onPut, onReply, replied, turned as turning}
+use Rattle.decisions.specs.Questions.{Question, console-is-idle, console-is-up, guarded, has-allowed-consoles, has-allowed-nodes, has-console, has-next-ts, has-node, holds-frame, is-well-formed, node-is-down, node-is-up}
+use Rattle.decisions.specs.declared.Decision.{Decision}
+use Rattle.decisions.specs.declared.Decision.the-variants.{Refuse}
+use Rattle.decisions.specs.declared.Part.the-variants.{NodeTo}
+use Rattle.decisions.specs.declared.Sent.the-variants.{Keep}
 use Rattle.board.specs.Answers.{answer, answerWith, refuse}
 use Rattle.board.specs.Boards.{consoleAt, frameAt, freshBoard, nodeAt, withConsole, withFrame, withNode, withRow}
 use Rattle.board.specs.Applied.{applied, withPart, withSent}

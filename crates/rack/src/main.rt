@@ -3,6 +3,7 @@
 // nobody reads its output any more, the system ends it.
 ghost use Prim.Native.Nat.{_≤_};
 ghost use lib.ListN.{length};
+use csv::splitting::HELD_BYTES;
 use libc::STDIN_FILENO;
 use libc::STDOUT_FILENO;
 use schedule::Rack;
@@ -11,7 +12,6 @@ use schedule::chunks::OUT_BYTES;
 use schedule::chunks::run_chunk;
 use schedule::chunks::run_end;
 use schedule::chunks::start;
-use split::HELD_BYTES;
 
 // A run, whether there may be more input, and whether all reads and writes went well so far.
 struct Course {

@@ -9,14 +9,14 @@ use lib.Dec.{eqb}
 use lib.ListN.{length, take, drop, getD, length-take, length-drop, length-append}
 use lib.Seq.{take-all, take-length, take-suc, take-add, sets}
 use Rattle.board.specs.declared.Board.{Board}
-use Rattle.changes.specs.Questions.{guarded}
+use Rattle.decisions.specs.Questions.{guarded}
 use Rattle.board.specs.Boards.{freshBoard}
 use Rattle.board.specs.Steps.{smallest, fresh}
-use Rattle.checks.specs.Clauses.{nodesAllowed, consolesAllowed}
+use Rattle.well_formed.specs.Clauses.{nodesAllowed, consolesAllowed}
 use Rattle.bytes.specs.Bytes.{indexOf, indexAfter, slice}
-use Rattle.lines.specs.Lines.{lfByte}
-use Rattle.split.specs.Split.{chop, heldBytes}
-use Rattle.text.proofs.WritesLaws.{sets-sets}
+use Rattle.csv.specs.Reading.{lfByte}
+use Rattle.csv.specs.Splitting.{chop, heldBytes}
+use Rattle.csv.proofs.SetsLaws.{sets-sets}
 use Rattle.schedule.specs.declared.Rack.{Rack}
 use Rattle.schedule.specs.Schedule.{effectOf, nextNumber}
 use Rattle.schedule.specs.Chunks.{Session, afterByte, textAt, afterBytes, textOf, textAtEnd, lastText, sessionOf, part, Taken}

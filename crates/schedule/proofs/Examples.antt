@@ -2,20 +2,20 @@
 use Prim.Native.String.{String}
 use mathlib.Core.List.{List, [], _∷_, map}
 use mathlib.Core.Path.{_≡_, refl}
-use Rattle.lines.specs.Texts.{bytes}
-use Rattle.lines.specs.Lines.{indexOf, countOf, fromField, quoted, unquoted, fieldOf, allDigits, valueFrom, numOf, lineOf}
-use Rattle.text.specs.Text.{digits, decimal, joined, lineText}
-use Rattle.split.specs.Split.{chop, linesAfter}
+use Rattle.csv.specs.Quoted.{bytes}
+use Rattle.csv.specs.Reading.{indexOf, countOf, fromField, quoted, unquoted, fieldOf, allDigits, valueFrom, numOf, lineOf}
+use Rattle.csv.specs.Writing.{digits, decimal, joined, lineText}
+use Rattle.csv.specs.Splitting.{chop, linesAfter}
 use Rattle.parts.specs.Finite.{every, count}
 use Rattle.parts.specs.Tags.{greater, compared}
 use Rattle.parts.specs.AnsweredSet.{member, insert, size, onlyBelow}
 use Rattle.parts.specs.Sizes.{majority, askSize, tellSize}
 use Rattle.parts.specs.Parts.{nodeIn, consoleIn, frameIn, place, setFrame, setRow}
-use Rattle.checks.specs.Clauses.{nodesAllowed, consolesAllowed, setupOk, isZero, tagOk, nodeOk, nodesOk, restOk, wantedOk, waitOk, stateOk, markOk, consoleOk, consolesOk, frameOk, cellOk, rowOk, cellsOk}
-use Rattle.changes.specs.Changes.{withUp, taken, rests, asks, awaits, stillAlike, hears, takesIn, nextTag, tells, acked}
-use Rattle.changes.specs.Questions.{guarded}
-use Rattle.changes.specs.Decisions.{begins, ends, falls, rises}
-use Rattle.changes.specs.Deliver.{onAsk, onPut, discards, heard, finished, turned, finishesEarly, replied, onReply, acknowledged, onAck, onFrame, delivered}
+use Rattle.well_formed.specs.Clauses.{nodesAllowed, consolesAllowed, setupOk, isZero, tagOk, nodeOk, nodesOk, restOk, wantedOk, waitOk, stateOk, markOk, consoleOk, consolesOk, frameOk, cellOk, rowOk, cellsOk}
+use Rattle.decisions.specs.Changes.{withUp, taken, rests, asks, awaits, stillAlike, hears, takesIn, nextTag, tells, acked}
+use Rattle.decisions.specs.Questions.{guarded}
+use Rattle.decisions.specs.Steps.{begins, ends, falls, rises}
+use Rattle.decisions.specs.Deliver.{onAsk, onPut, discards, heard, finished, turned, finishesEarly, replied, onReply, acknowledged, onAck, onFrame, delivered}
 use Rattle.board.specs.Boards.{nodeAt, consoleAt, frameAt, withNode, withConsole, withFrame, withRow, freshBoard}
 use Rattle.board.specs.WellFormed.{wellFormed}
 use Rattle.board.specs.Steps.{fresh, begin, nodeDown, nodeUp, consoleDown}

@@ -9,10 +9,10 @@ use Rattle.parts.specs.Outcomes.{accepted}
 use Rattle.board.specs.declared.Answer.{Answer}
 use Rattle.board.specs.declared.Board.{Board}
 use Rattle.board.specs.WellFormed.{wellFormed}
-use Rattle.lines.specs.Lines.{lfByte, lineOf}
-use Rattle.lines.specs.declared.Line.{Line}
-use Rattle.lines.specs.declared.Line.the-variants.{TooLong, NotThree, Numbers}
-use Rattle.split.specs.Split.{chop}
+use Rattle.csv.specs.Reading.{lfByte, lineOf}
+use Rattle.csv.specs.declared.Line.{Line}
+use Rattle.csv.specs.declared.Line.the-variants.{TooLong, NotThree, Numbers}
+use Rattle.csv.specs.Splitting.{chop}
 use Rattle.verbs.proofs.VerbsLaws.{verb-keeps-well-formed}
 use Rattle.schedule.specs.Schedule.{answerOf, boardAfter, effectOf}
 use Rattle.schedule.specs.Chunks.{Session, afterByte, afterBytes, afterLine, withByte}

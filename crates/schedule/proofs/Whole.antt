@@ -9,9 +9,9 @@ use lib.Dec.{eqb, leb}
 use lib.ListN.{length, take}
 use lib.Seq.{take-all, length-take-le}
 use Rattle.board.specs.declared.Board.{Board}
-use Rattle.lines.specs.Lines.{lfByte, lineOf}
-use Rattle.lines.proofs.LinesLaws.{line-long}
-use Rattle.split.specs.Split.{chop, linesAfter, heldBytes}
+use Rattle.csv.specs.Reading.{lfByte, lineOf}
+use Rattle.csv.proofs.ReadingLaws.{line-long}
+use Rattle.csv.specs.Splitting.{chop, linesAfter, heldBytes}
 use Rattle.schedule.specs.Schedule.{Effect, effectOf, nextNumber, outputOf, scheduleText}
 use Rattle.schedule.specs.Chunks.{Session, atStart, withByte, lineEffect, afterLine, afterByte, textAt, afterBytes, textOf, textAtEnd, lastText, printed, inputOf, startRack, sessionOf}
 

@@ -10,8 +10,8 @@ use lib.Seq.{sets}
 use Rattle.board.specs.declared.Board.{Board}
 use Rattle.board.specs.Boards.{freshBoard}
 use Rattle.board.specs.Steps.{smallest}
-use Rattle.lines.specs.Lines.{lfByte}
-use Rattle.split.specs.Split.{chop, heldBytes}
+use Rattle.csv.specs.Reading.{lfByte}
+use Rattle.csv.specs.Splitting.{chop, heldBytes}
 use Rattle.schedule.specs.declared.Rack.{Rack}
 use Rattle.schedule.specs.Schedule.{Effect, effectOf, firstNumber, nextNumber}
 

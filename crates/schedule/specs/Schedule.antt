@@ -7,13 +7,13 @@ use Rattle.board.specs.declared.Board.{Board}
 use Rattle.board.specs.Answers.{refuse}
 use Rattle.board.specs.Boards.{freshBoard}
 use Rattle.board.specs.Steps.{smallest}
-use Rattle.lines.specs.declared.Line.{Line}
-use Rattle.lines.specs.declared.Line.the-variants.{TooLong, NotThree, Numbers}
-use Rattle.lines.specs.Lines.{lineOf}
+use Rattle.csv.specs.declared.Line.{Line}
+use Rattle.csv.specs.declared.Line.the-variants.{TooLong, NotThree, Numbers}
+use Rattle.csv.specs.Reading.{lineOf}
 use Rattle.parts.specs.Outcomes.{accepted, outcomeNumber, outcomeTag, outcomeValue}
-use Rattle.split.specs.Split.{linesOf}
-use Rattle.text.specs.declared.Row.{Row}
-use Rattle.text.specs.Text.{lineText}
+use Rattle.csv.specs.Splitting.{linesOf}
+use Rattle.csv.specs.declared.Row.{Row}
+use Rattle.csv.specs.Writing.{lineText}
 use Rattle.verbs.specs.Verbs.{stepOf}
 
 -- 'It refuses a line over 64 bytes with 13, then one that is not three such fields with 11, then an unknown verb with 12

@@ -4,19 +4,19 @@ ghost use Prim.Native.Nat.{_+_, _*_, _<_, _≤_};
 ghost use lib.ListN.{length, take};
 ghost use lib.Seq.{sets};
 ghost use Rattle.board.specs.WellFormed.{wellFormed};
-ghost use Rattle.split.specs.Split.{heldBytes};
-ghost use Rattle.text.specs.Text.{lineBytes};
+ghost use Rattle.csv.specs.Splitting.{heldBytes};
+ghost use Rattle.csv.specs.Writing.{lineBytes};
 ghost use Rattle.schedule.specs.Chunks.{startRack, sessionOf, part, lastText, Taken};
 use crate::Rack;
 use crate::effects::next_number;
 use crate::effects::run_line;
 use board::Board;
 use bytes::scan::find;
-use split::HELD_BYTES;
-use split::chopped;
-use split::hold;
-use split::least;
-use text::LINE_BYTES;
+use csv::LINE_BYTES;
+use csv::splitting::HELD_BYTES;
+use csv::splitting::chopped;
+use csv::splitting::hold;
+use csv::splitting::least;
 
 // Takes the next line of the chunk, or what there is of it. The caller has seen that there is a byte left, that the line held has
 // its 66 bytes, and that an output line has room, and knows whether the board is well formed.

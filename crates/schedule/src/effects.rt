@@ -4,16 +4,16 @@ ghost use Prim.Native.Nat.{_+_, _≤_};
 ghost use lib.ListN.{length};
 ghost use lib.Seq.{sets};
 ghost use Rattle.board.specs.WellFormed.{wellFormed};
-ghost use Rattle.text.specs.Text.{lineBytes};
+ghost use Rattle.csv.specs.Writing.{lineBytes};
 ghost use Rattle.schedule.specs.Schedule.{answerTo, boardAfter, rowOf, effectOf, nextNumber};
 use board::Answer;
 use board::Board;
 use board::refusals::LINE_TOO_LONG;
 use board::refusals::NOT_THREE_FIELDS;
-use lines::Line;
-use lines::reading::read_line;
-use text::Row;
-use text::writing::put_line;
+use csv::Line;
+use csv::Row;
+use csv::reading::read_line;
+use csv::writing::put_line;
 use verbs::step_known;
 
 // The board after a line, and how far the output is written.

@@ -1,7 +1,7 @@
 -- The two questions in their order, then the board.
 use mathlib.Core.Path.{sym, ap, _∙_}
 use borrow.Author.Needs.{needs}
-use Rattle.changes.proofs.QuestionsLaws.{guarded-no, guarded-yes, guarded-end}
+use Rattle.decisions.proofs.QuestionsLaws.{guarded-no, guarded-yes, guarded-end}
 use Rattle.board.specs.Answers.{answer, refuse}
 use Rattle.board.specs.declared.Board.{Board}
 use Rattle.board.specs.Steps.{fresh}

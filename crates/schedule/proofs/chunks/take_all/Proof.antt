@@ -7,8 +7,8 @@ use native.Mathlib.Omega.{arith}
 use lib.ListN.{length, take, length-take}
 use lib.Seq.{take-length}
 use Rattle.board.specs.WellFormed.{wellFormed}
-use Rattle.text.specs.Text.{lineBytes}
-use Rattle.split.specs.Split.{heldBytes}
+use Rattle.csv.specs.Writing.{lineBytes}
+use Rattle.csv.specs.Splitting.{heldBytes}
 use Rattle.schedule.specs.Chunks.{afterBytes, textOf, Taken}
 use Rattle.schedule.proofs.ScheduleLaws.{still-formed}
 use Rattle.schedule.proofs.ChunksLaws.{taken-more, taken-as}

@@ -5,7 +5,7 @@ use mathlib.Core.Path.{_≡_, sym, ap, _∙_}
 use native.Mathlib.Omega.{arith}
 use lib.ListN.{take, length-take}
 use lib.Seq.{length-take-le}
-use Rattle.split.proofs.SplitLaws.{take-least}
+use Rattle.csv.proofs.SplittingLaws.{take-least}
 use Rattle.schedule.proofs.ChunksLaws.{taken-as}
 use borrow.Author.Needs.{needs}
 use Rattle.schedule.proofs.chunks.take_first.Statement.{statement}

@@ -5,7 +5,7 @@ use mathlib.Core.Path.{_≡_, sym, ap, _∙_}
 use native.Mathlib.Omega.{arith}
 use lib.ListN.{length, take, length-take}
 use lib.Seq.{sets, length-take-le}
-use Rattle.split.proofs.SplitLaws.{take-least}
+use Rattle.csv.proofs.SplittingLaws.{take-least}
 use Rattle.schedule.specs.Schedule.{effectOf}
 use Rattle.schedule.specs.Chunks.{Session, sessionOf}
 use Rattle.schedule.proofs.ChunksLaws.{no-last, a-last}

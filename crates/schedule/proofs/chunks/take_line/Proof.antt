@@ -6,7 +6,7 @@ use mathlib.Core.Path.{_≡_, sym, ap, _∙_}
 use native.Mathlib.Omega.{arith}
 use lib.ListN.{length, take, length-take}
 use lib.Seq.{sets, length-take-le}
-use Rattle.split.specs.Split.{chop, heldBytes}
+use Rattle.csv.specs.Splitting.{chop, heldBytes}
 use Rattle.schedule.specs.Schedule.{effectOf}
 use Rattle.schedule.specs.Chunks.{Session, sessionOf, part}
 use Rattle.schedule.proofs.ChunksLaws.{before-lf, before-lf-text, after-lf, after-lf-text, held-is, part-length}

@@ -1,6 +1,6 @@
 -- By what the line is read as.
 use mathlib.Core.Path.{sym, ap, _∙_}
-use Rattle.lines.specs.declared.Line.{Line}
+use Rattle.csv.specs.declared.Line.{Line}
 use Rattle.schedule.specs.Schedule.{answerOf}
 use borrow.Author.Needs.{needs}
 use Rattle.schedule.proofs.effects.answer_to.Statement.{statement}

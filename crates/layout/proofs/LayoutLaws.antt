@@ -1,0 +1,49 @@
+-- Laws of the numbers of states and frames, and of reading and writing one part more.
+use Prim.Native.Nat.{ℕ, zero, suc, _+_, _≤_}
+use mathlib.Core.Bool.{Bool, true, false}
+use mathlib.Core.List.{List}
+use mathlib.Core.Path.{_≡_, refl}
+use native.Mathlib.Numerals.{add-one}
+use native.Mathlib.Omega.{arith}
+use borrow.Author.Tests.{eqb-true, eqb-false}
+use lib.Dec.{eqb}
+use lib.ListN.{getD, set}
+use Rattle.parts.specs.declared.Tag.{Tag}
+use Rattle.parts.specs.declared.Frame.the-variants.{Ack}
+use Rattle.parts.specs.declared.State.the-variants.{Down}
+use Rattle.parts.specs.declared.Console.{Console}
+use Rattle.parts.specs.Parts.{idleConsole}
+use Rattle.layout.specs.Layout.{stateOf, frameOf, allFrom, putAll, Byte, Bytes}
+
+pub state-down : (s : ℕ) → 5 ≤ s → Down ≡ stateOf s
+unfolding stateOf
+state-down zero h = absurd (omega arith)
+state-down (suc zero) h = absurd (omega arith)
+state-down (suc (suc zero)) h = absurd (omega arith)
+state-down (suc (suc (suc zero))) h = absurd (omega arith)
+state-down (suc (suc (suc (suc zero)))) h = absurd (omega arith)
+state-down (suc (suc (suc (suc (suc s))))) h = refl
+
+pub frame-ack : (f : ℕ) (t : Tag) (v : ℕ) → 4 ≤ f → Ack ≡ frameOf f t v
+unfolding frameOf
+frame-ack zero t v h = absurd (omega arith)
+frame-ack (suc zero) t v h = absurd (omega arith)
+frame-ack (suc (suc zero)) t v h = absurd (omega arith)
+frame-ack (suc (suc (suc zero))) t v h = absurd (omega arith)
+frame-ack (suc (suc (suc (suc f)))) t v h = refl
+
+pub from-more : {A : Type 0} (from : List ℕ → ℕ → A) (place : ℕ → ℕ) (xs : List A) (k : ℕ) (w : List ℕ) → set (allFrom from place xs k w) k (from w (place k)) ≡ allFrom from place xs (k + 1) w
+unfolding allFrom
+from-more from place xs k w = rw add-one
+
+pub put-more : {A : Type 0} (put : List ℕ → ℕ → A → List ℕ) (place : ℕ → ℕ) (d : A) (xs : List A) (k : ℕ) (w : List ℕ)
+    → put (putAll put place d xs k w) (place k) (getD xs k d) ≡ putAll put place d xs (k + 1) w
+unfolding putAll
+put-more put place d xs k w = rw add-one
+
+pub bytes-more : (xs : List Console) (k : ℕ) → Bytes xs k → Byte (getD xs k idleConsole) → Bytes xs (k + 1)
+bytes-more xs k h last c l = go (eqb c k) refl
+  where
+    go : (t : Bool) → eqb c k ≡ t → Byte (getD xs c idleConsole)
+    go true e = rw (eqb-true c k e) last
+    go false e = h c (omega (arith, eqb-false c k e))

@@ -1,0 +1,22 @@
+-- Each arm is a case of the definition.
+use borrow.Author.Needs.{needs}
+use Rattle.layout.specs.Layout.{releaseNumber}
+use Rattle.layout.proofs.writing.release_number.Statement.{statement}
+use Rattle.layout.proofs.writing.release_number.Tie as tie
+
+enum-told : tie.Need-enum-told
+enum-told c = search needs
+
+enum-told-2 : tie.Need-enum-told-2
+enum-told-2 c = search needs
+
+returns : tie.Need-returns
+unfolding releaseNumber
+returns c = simp (c .enum-told .given .1)
+
+returns-2 : tie.Need-returns-2
+unfolding releaseNumber
+returns-2 c = simp (c .enum-told2 .given .1)
+
+pub release-number-spec : {M : Type 1} → statement M
+release-number-spec = tie.close (tie.spec enum-told enum-told-2 returns returns-2)

@@ -1,0 +1,2 @@
+-- A board in words of 32 bits.
+pub mod Layout

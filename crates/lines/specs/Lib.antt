@@ -1,3 +1,0 @@
--- Lines that programs read, and a quoted text as bytes, for examples.
-pub mod Lines
-pub mod Texts

@@ -1,2 +1,0 @@
--- The lines of an input.
-pub mod Split

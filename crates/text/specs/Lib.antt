@@ -1,2 +1,0 @@
--- Lines that programs write.
-pub mod Text

@@ -1,3 +1,0 @@
--- Laws of the words; encoding and then decoding a board gives that board (RoundTrip).
-pub mod WordsLaws
-pub mod RoundTrip

@@ -1,2 +1,0 @@
--- A board in words of 32 bits.
-pub mod Words
