@@ -61,7 +61,7 @@ use std::error::Error;
 use std::fmt::{self, Display, Formatter};
 
 /// The words of a board (see [`Board::from_words`]).
-pub const BOARD_WORDS: usize = 239;
+pub const BOARD_WORDS: usize = 3 + 5 * 4 + 8 * 7 + 40 * 4;
 
 /// The words of an answer: the outcome's number, the refusal, the tag's ts and console, the value, the comparison's number.
 const ANSWER_WORDS: usize = 6;
@@ -251,20 +251,19 @@ impl Board {
         said.chunks_exact(ANSWER_WORDS).map(answer).collect()
     }
 
-    /// The board that these words are. Any words are some board's; if it is not well formed, every step but a fresh refuses
-    /// it with 1.
+    /// The board that these words are. Any words whatever may be given: if no board is written as they are, or it is not well
+    /// formed, every step but a fresh refuses it with 1, and it stays as it is.
     ///
-    /// - words 0, 1 and 2: n, m and the release (2 is release 2, any other number release 1)
-    /// - from 3 on, four for each of 5 nodes: up (0 is down), ts, console, value
+    /// - words 0, 1 and 2: n, m and the release, 1 or 2
+    /// - from 3 on, four for each of 5 nodes: up (1; 0 is down), ts, console, value
     /// - from 23 on, seven for each of 8 consoles: state (0 idle, 1 asking to read, 2 asking to write, 3 telling to read, 4
-    ///   telling to write, from 5 on down), wanted value, answered set (bit k is node k; bits from 8 on are passed over), best
-    ///   ts, best console, best value, the mark 'all alike so far' (0 is off; it is on from the first answer of an asking while
-    ///   every answer has carried one tag)
-    /// - from 79 on, four for each of 40 cells, at console times 5 plus node: frame (0 nothing, 1 ask, 2 reply, 3 put, from 4 on
-    ///   ack), ts, console, value; the last three are passed over but for a reply and a put
+    ///   telling to write, 5 down), wanted value, answered set (bit k is node k), best ts, best console, best value, the mark
+    ///   'all alike so far' (0 or 1; it is on from the first answer of an asking while every answer has carried one tag)
+    /// - from 79 on, four for each of 40 cells, at console times 5 plus node: frame (0 nothing, 1 ask, 2 reply, 3 put, 4 ack),
+    ///   ts, console, value; the last three are 0 but for a reply and a put
     ///
-    /// An accepted step writes all words anew, each number that is passed over as 0, each state and frame as its lowest number,
-    /// each up and mark as 0 or 1, and the release as 1 or 2.
+    /// Any other number in the place of a release, an up, a state, a mark or a frame, a set above 255, and anything but 0
+    /// beside a frame without a tag make them no board's: a flipped bit never passes for another state.
     pub fn from_words(words: [u32; BOARD_WORDS]) -> Board {
         Board { words }
     }
@@ -560,13 +559,30 @@ mod tests {
     }
 
     #[test]
-    fn a_release_that_there_is_not_is_release_1() {
-        for release in [0, 3, u32::MAX] {
-            let mut words = Board::fresh_under(3, 2, Release::Two).unwrap().words;
-            words[RELEASE] = release;
+    fn words_that_no_board_is_written_as_are_refused_and_kept() {
+        let wrong = [
+            (RELEASE, 0),
+            (RELEASE, 3),
+            (NODES, 2),
+            (CONSOLES, 6),
+            (CONSOLES, 77),
+            (CONSOLES + 2, 256),
+            (CONSOLES + 6, 2),
+            (CELLS, 5),
+            (CELLS, 9),
+            (CELLS + 1, 1),
+            (CELLS + 2, 1),
+            (CELLS + 3, 1),
+        ];
+        for (place, number) in wrong {
+            let mut words = *Board::fresh_under(3, 2, Release::Two).unwrap().words();
+            words[place] = number;
             let mut board = Board::from_words(words);
-            assert_eq!(quiet_read(&mut board), TURNED);
-            assert_eq!(board.words[RELEASE], 1);
+            assert_eq!(board.begin_read(0), Err(Refusal(1)));
+            assert_eq!(board.console_down(1), Err(Refusal(1)));
+            assert_eq!(board.run(&[Step::NodeDown { node: 0 }]), [Err(Refusal(1))]);
+            assert_eq!(board.words(), &words);
+            assert_eq!(board.run(&[Step::Fresh { n: 3, m: 2 }]), [Ok(DONE)]);
         }
     }
 

@@ -1,12 +1,13 @@
 -- A board's parts, a board with one part changed, and the fresh board. No step writes a board's record but through these.
-use Prim.Native.Nat.{ℕ, _*_}
+use Prim.Native.Nat.{ℕ}
 use lib.ListN.{set, replicate}
 use Rattle.parts.specs.declared.Frame.{Frame}
 use Rattle.parts.specs.declared.Frame.the-variants.{Nothing}
 use Rattle.parts.specs.declared.Node.{Node}
 use Rattle.parts.specs.declared.Console.{Console}
+use Rattle.parts.specs.declared.Release.the-variants.{One}
 use Rattle.parts.specs.declared.Setup.{Setup}
-use Rattle.parts.specs.Limits.{maxNodes, maxConsoles}
+use Rattle.parts.specs.Limits.{maxNodes, maxConsoles, maxCells}
 use Rattle.parts.specs.Parts.{freshNode, idleConsole, cellOf, nodeIn, consoleIn, frameIn, setFrame, setRow}
 use Rattle.board.specs.declared.Board.{Board}
 
@@ -45,5 +46,9 @@ freshBoard σ =
       setup = σ;
       nodes = replicate maxNodes freshNode;
       consoles = replicate maxConsoles idleConsole;
-      cells = replicate (maxConsoles * maxNodes) (cellOf Nothing);
+      cells = replicate maxCells (cellOf Nothing);
     }
+
+-- the board of no nodes and no consoles, which is not well formed: what stands for no board is read as this one
+abbrev pub noBoard : Board
+noBoard = freshBoard (record { n = 0; m = 0; release = One })

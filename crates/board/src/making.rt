@@ -17,8 +17,6 @@ use parts::Node;
 use parts::Outcome;
 use parts::Release;
 use parts::Setup;
-use parts::State;
-use parts::Tag;
 use well_formed::ranges::is_console_count;
 use well_formed::ranges::is_node_count;
 
@@ -69,23 +67,11 @@ impl Board {
     }
 
     // The fresh board of a setup.
-    fn made(setup: Setup) -> Board
+    pub(crate) fn made(setup: Setup) -> Board
         ensures { λ r. ⌜ r ≡ freshBoard setup ⌝ }
     {
-        let zero = Tag { ts: 0, console: 0 };
-        let node = Node {
-            up: true,
-            tag: zero,
-            value: 0,
-        };
-        let console = Console {
-            state: State::Idle,
-            wanted: 0,
-            answered: 0,
-            best: zero,
-            value: 0,
-            alike: false,
-        };
+        let node = Node::FRESH;
+        let console = Console::IDLE;
         let cell = Cell {
             frame: Frame::Nothing,
         };

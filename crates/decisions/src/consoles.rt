@@ -13,12 +13,11 @@ use parts::answered::is_member;
 pub fn rest(s: State, x: Console) -> Console
     ensures { λ r. ⌜ r ≡ rests s x ⌝ }
 {
-    let zero = Tag { ts: 0, console: 0 };
     Console {
         state: s,
         wanted: 0,
         answered: 0,
-        best: zero,
+        best: Tag::ZERO,
         value: 0,
         alike: false,
     }
@@ -28,12 +27,11 @@ pub fn rest(s: State, x: Console) -> Console
 pub fn ask(w: Kind, v: u32, x: Console) -> Console
     ensures { λ r. ⌜ r ≡ asks w v x ⌝ }
 {
-    let zero = Tag { ts: 0, console: 0 };
     Console {
         state: State::Asking(w),
         wanted: v,
         answered: 0,
-        best: zero,
+        best: Tag::ZERO,
         value: 0,
         alike: false,
     }

@@ -8,9 +8,8 @@ use borrow.Author.Tests.{leb-true, leb-false, le-leb, ne-eqb, eq-eqb}
 use lib.Dec.{eqb, leb}
 use Rattle.parts.specs.Outcomes.{accepted}
 use Rattle.board.specs.declared.Answer.{Answer}
-use Rattle.board.specs.declared.Board.{Board}
-use Rattle.layout.specs.Layout.{boardWords, decoded, encoded}
-use Rattle.hatukeno.specs.Calls.{answerWords, said, kept, shortBy, code, Called}
+use Rattle.layout.specs.Layout.{boardWords, encoded}
+use Rattle.hatukeno.specs.Calls.{answerWords, putAnswer, kept, shortBy, code, Called}
 
 -- ---- lengths
 
@@ -61,15 +60,14 @@ kept-refused w a e = rw e
 -- ---- calls
 
 -- if memory is short, nothing is written
-pub not-called : (step : Board → Answer) (w s : List ℕ) (r : ℕ) → r ≡ code w s → (r ≡ 0 → ⊥) → Called step w s r w s
-not-called step w s r e n = record { returned = e; board = rw off; answer = rw off }
+pub not-called : (a : Answer) (w s : List ℕ) (r : ℕ) → r ≡ code w s → (r ≡ 0 → ⊥) → Called a w s r w s
+not-called a w s r e n = record { returned = e; board = rw off; answer = rw off }
   where
     off : eqb (code w s) 0 ≡ false
     off = ne-eqb (code w s) 0 (λ d. n (e ∙ d))
 
-pub called : (step : Board → Answer) (w s : List ℕ) (r : ℕ) → r ≡ code w s → r ≡ 0 → (b : Board) → b ≡ decoded w → (a : Answer) → a ≡ step b → (w' s' : List ℕ) → w' ≡ kept w a → s' ≡ said s 0 a
-    → Called step w s 0 w' s'
-called step w s r e z b d a f w' s' k t = record { returned = sym z ∙ e; board = k ∙ rw (on, f, d); answer = t ∙ rw (on, f, d) }
+pub called : (a : Answer) (w s : List ℕ) (r : ℕ) → r ≡ code w s → r ≡ 0 → (w' s' : List ℕ) → w' ≡ kept w a → s' ≡ putAnswer s 0 a → Called a w s 0 w' s'
+called a w s r e z w' s' k t = record { returned = sym z ∙ e; board = k ∙ rw on; answer = t ∙ rw on }
   where
     on : eqb (code w s) 0 ≡ true
     on = eq-eqb (code w s) 0 (sym e ∙ z)

@@ -7,16 +7,17 @@ use native.Mathlib.Numerals.{add-one}
 use native.Mathlib.Omega.{arith}
 use borrow.Author.Tests.{leb-true, leb-false, le-leb, ne-eqb, eq-eqb, not-false}
 use lib.Dec.{eqb, leb}
-use lib.ListN.{length, length-set}
+use lib.ListN.{length}
+use lib.Seq.{length-sets}
 use Rattle.parts.specs.Outcomes.{accepted}
 use Rattle.board.specs.declared.Answer.{Answer}
 use Rattle.board.specs.declared.Board.{Board}
 use Rattle.board.specs.WellFormed.{wellFormed}
 use Rattle.verbs.proofs.VerbsLaws.{verb-keeps-well-formed}
-use Rattle.layout.specs.Layout.{boardWords, decoded, encoded}
-use Rattle.hatukeno.specs.declared.Course.{Course}
-use Rattle.hatukeno.specs.Calls.{answerWords, said}
-use Rattle.hatukeno.specs.Lists.{stepWords, stepAt, goOn, after, answers, keptAfter, stepsIn, listShortBy, listCode, Ran}
+use Rattle.layout.specs.Layout.{boardWords, encoded}
+use Rattle.hatukeno.specs.declared.Midway.{Midway}
+use Rattle.hatukeno.specs.Calls.{answerWords, answerFields, putAnswer}
+use Rattle.hatukeno.specs.Lists.{stepWords, stepAt, goOn, midway, answers, keptAfter, stepsIn, lastOf, answersOf, listShortBy, listCode, Ran}
 
 -- ---- lengths
 
@@ -61,16 +62,16 @@ module _ (w q s : ℕ) where
 
 -- ---- one step more
 
-pub go-on-done : (x : Course) (a : Answer) → accepted (a .outcome) ≡ true → record { board = a .board; moved = true } ≡ goOn x a
+pub go-on-done : (x : Midway) (a : Answer) → accepted (a .outcome) ≡ true → record { board = a .board; moved = true } ≡ goOn x a
 unfolding goOn
 go-on-done x a e = rw e
 
-pub go-on-refused : (x : Course) (a : Answer) → accepted (a .outcome) ≡ false → x ≡ goOn x a
+pub go-on-refused : (x : Midway) (a : Answer) → accepted (a .outcome) ≡ false → x ≡ goOn x a
 unfolding goOn
 go-on-refused x a e = rw e
 
 -- a well-formed board stays so
-go-on-formed : (x : Course) (a : Answer) → wellFormed (x .board) ≡ true → wellFormed (a .board) ≡ true → wellFormed (goOn x a .board) ≡ true
+go-on-formed : (x : Midway) (a : Answer) → wellFormed (x .board) ≡ true → wellFormed (a .board) ≡ true → wellFormed (goOn x a .board) ≡ true
 unfolding goOn
 go-on-formed x a h i = go (accepted (a .outcome))
   where
@@ -79,37 +80,37 @@ go-on-formed x a h i = go (accepted (a .outcome))
     go false = h
 
 -- so what was known of the board is still so after a step, if it was well formed
-pub still-formed : (formed : Bool) (q : List ℕ) (k : ℕ) (x y : Course) → formed ≡ wellFormed (x .board) → not formed ≡ false → y ≡ goOn x (stepAt q k (x .board)) → formed ≡ wellFormed (y .board)
+pub still-formed : (formed : Bool) (q : List ℕ) (k : ℕ) (x y : Midway) → formed ≡ wellFormed (x .board) → not formed ≡ false → y ≡ goOn x (stepAt q k (x .board)) → formed ≡ wellFormed (y .board)
 unfolding stepAt
 still-formed formed q k x y h n e =
     let yes : formed ≡ true = not-false formed n in
     let was : wellFormed (x .board) ≡ true = sym h ∙ yes in
-    yes ∙ sym (ap (λ (z : Course). wellFormed (z .board)) e ∙ go-on-formed x _ was (verb-keeps-well-formed _ _ _ (x .board) was))
+    yes ∙ sym (ap (λ (z : Midway). wellFormed (z .board)) e ∙ go-on-formed x _ was (verb-keeps-well-formed _ _ _ (x .board) was))
 
-pub after-more : (q : List ℕ) (b : Board) (k : ℕ) → goOn (after q b k) (stepAt q k (after q b k .board)) ≡ after q b (k + 1)
-unfolding after
-after-more q b k = rw add-one
+pub midway-more : (q : List ℕ) (b : Board) (k : ℕ) → goOn (midway q b k) (stepAt q k (midway q b k .board)) ≡ midway q b (k + 1)
+unfolding midway
+midway-more q b k = rw add-one
 
-pub answers-more : (q : List ℕ) (b : Board) (s : List ℕ) (k : ℕ) → said (answers q b s k) (k * answerWords) (stepAt q k (after q b k .board)) ≡ answers q b s (k + 1)
+pub answers-more : (q : List ℕ) (b : Board) (s : List ℕ) (k : ℕ) → putAnswer (answers q b s k) (k * answerWords) (stepAt q k (midway q b k .board)) ≡ answers q b s (k + 1)
 unfolding answers
 answers-more q b s k = rw add-one
 
-pub said-long : (s : List ℕ) (p : ℕ) (a : Answer) → length (said s p a) ≡ length s
-unfolding said
-said-long s p a = simp length-set
+pub put-answer-long : (s : List ℕ) (p : ℕ) (a : Answer) → length (putAnswer s p a) ≡ length s
+unfolding putAnswer
+put-answer-long s p a = length-sets s p (answerFields a)
 
 pub answers-long : (q : List ℕ) (b : Board) (s : List ℕ) (k : ℕ) → length (answers q b s k) ≡ length s
 unfolding answers
 answers-long q b s zero = refl
-answers-long q b s (suc k) = said-long (answers q b s k) (k * answerWords) (stepAt q k (after q b k .board)) ∙ answers-long q b s k
+answers-long q b s (suc k) = put-answer-long (answers q b s k) (k * answerWords) (stepAt q k (midway q b k .board)) ∙ answers-long q b s k
 
 -- ---- writing back
 
-pub kept-after-moved : (w : List ℕ) (x : Course) → x .moved ≡ true → encoded w (x .board) ≡ keptAfter w x
+pub kept-after-moved : (w : List ℕ) (x : Midway) → x .moved ≡ true → encoded w (x .board) ≡ keptAfter w x
 unfolding keptAfter
 kept-after-moved w x e = ap (λ (t : Bool). cond t (encoded w (x .board)) w) (sym e)
 
-pub kept-after-still : (w : List ℕ) (x : Course) → x .moved ≡ false → w ≡ keptAfter w x
+pub kept-after-still : (w : List ℕ) (x : Midway) → x .moved ≡ false → w ≡ keptAfter w x
 unfolding keptAfter
 kept-after-still w x e = ap (λ (t : Bool). cond t (encoded w (x .board)) w) (sym e)
 
@@ -122,9 +123,8 @@ not-ran w q s r e n = record { returned = e; board = rw off; answered = rw off }
     off : eqb (listCode w q s) 0 ≡ false
     off = ne-eqb (listCode w q s) 0 (λ d. n (e ∙ d))
 
-pub ran : (w q s : List ℕ) (r : ℕ) → r ≡ listCode w q s → r ≡ 0 → (b : Board) → b ≡ decoded w → (x : Course) → x ≡ after q b (stepsIn (length q)) → (w' s' : List ℕ) → w' ≡ keptAfter w x
-    → s' ≡ answers q b s (stepsIn (length q)) → Ran w q s 0 w' s'
-ran w q s r e z b d x f w' s' k t = record { returned = sym z ∙ e; board = k ∙ rw (on, f, d); answered = t ∙ rw (on, d) }
+pub ran : (w q s : List ℕ) (r : ℕ) → r ≡ listCode w q s → r ≡ 0 → (w' s' : List ℕ) → w' ≡ keptAfter w (lastOf w q) → s' ≡ answersOf w q s → Ran w q s 0 w' s'
+ran w q s r e z w' s' k t = record { returned = sym z ∙ e; board = k ∙ rw on; answered = t ∙ rw on }
   where
     on : eqb (listCode w q s) 0 ≡ true
     on = eq-eqb (listCode w q s) 0 (sym e ∙ z)

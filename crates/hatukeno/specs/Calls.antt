@@ -1,22 +1,26 @@
 -- Steps on a board that stands in lent words: one step a call (Called). The answer goes into six words lent beside it.
-use Prim.Native.Nat.{ℕ, _+_}
+use Prim.Native.Nat.{ℕ}
 use mathlib.Core.Bool.{cond}
-use mathlib.Core.List.{List}
+use mathlib.Core.List.{List, [], _∷_}
 use mathlib.Core.Path.{_≡_}
 use lib.Dec.{eqb, leb}
-use lib.ListN.{length, set}
+use lib.ListN.{length}
+use lib.Seq.{sets}
 use Rattle.parts.specs.Outcomes.{accepted, outcomeNumber, outcomeTag, outcomeValue, comparedNumber}
 use Rattle.board.specs.declared.Answer.{Answer}
-use Rattle.board.specs.declared.Board.{Board}
-use Rattle.layout.specs.Layout.{boardWords, decoded, encoded, putFour}
+use Rattle.layout.specs.Layout.{boardWords, encoded}
 
 -- the words of an answer
 abbrev pub answerWords : ℕ
 answerWords = 6
 
--- outcome, refusal, tag, value and comparison, from p on
-unfoldable pub said : List ℕ → ℕ → Answer → List ℕ
-said s p a = set (set (putFour s p (outcomeNumber (a .outcome)) (a .refusal) (outcomeTag (a .outcome) .ts) (outcomeTag (a .outcome) .console)) (p + 4) (outcomeValue (a .outcome))) (p + 5) (comparedNumber (a .compared))
+-- outcome, refusal, tag, value and comparison
+unfoldable pub answerFields : Answer → List ℕ
+answerFields a = outcomeNumber (a .outcome) ∷ a .refusal ∷ outcomeTag (a .outcome) .ts ∷ outcomeTag (a .outcome) .console ∷ outcomeValue (a .outcome) ∷ comparedNumber (a .compared) ∷ []
+
+-- in the words from p on
+unfoldable pub putAnswer : List ℕ → ℕ → Answer → List ℕ
+putAnswer s p a = sets s p (answerFields a)
 
 -- on a refusal nothing of the lent board is written
 unfoldable pub kept : List ℕ → Answer → List ℕ
@@ -29,9 +33,9 @@ shortBy w s = cond (leb boardWords w) (cond (leb answerWords s) 0 2) 1
 abbrev pub code : List ℕ → List ℕ → ℕ
 code w s = shortBy (length w) (length s)
 
--- a call of a step: what it returns, and the words of the board and of the answer after it. If memory is short, nothing is
--- written
-pub record Called (step : Board → Answer) (w s : List ℕ) (r : ℕ) (w' s' : List ℕ) : Type 0 where
+-- a call of a step that answers a: what it returns, and the words of the board and of the answer after it. If memory is short,
+-- nothing is written
+pub record Called (a : Answer) (w s : List ℕ) (r : ℕ) (w' s' : List ℕ) : Type 0 where
   pub returned : r ≡ code w s
-  pub board : w' ≡ cond (eqb (code w s) 0) (kept w (step (decoded w))) w
-  pub answer : s' ≡ cond (eqb (code w s) 0) (said s 0 (step (decoded w))) s
+  pub board : w' ≡ cond (eqb (code w s) 0) (kept w a) w
+  pub answer : s' ≡ cond (eqb (code w s) 0) (putAnswer s 0 a) s

@@ -9,9 +9,10 @@ use Rattle.parts.specs.Outcomes.{accepted}
 use Rattle.board.specs.declared.Answer.{Answer}
 use Rattle.board.specs.declared.Board.{Board}
 use Rattle.verbs.specs.Verbs.{stepOf}
-use Rattle.layout.specs.Layout.{boardWords, word, decoded, encoded}
-use Rattle.hatukeno.specs.declared.Course.{Course}
-use Rattle.hatukeno.specs.Calls.{answerWords, said}
+use Rattle.layout.specs.Layout.{boardWords, word, encoded}
+use Rattle.layout.specs.Standing.{decoded}
+use Rattle.hatukeno.specs.declared.Midway.{Midway}
+use Rattle.hatukeno.specs.Calls.{answerWords, putAnswer}
 
 -- the words of a step
 abbrev pub stepWords : ℕ
@@ -22,26 +23,33 @@ unfoldable pub stepAt : List ℕ → ℕ → Board → Answer
 stepAt q i = stepOf (word q (i * stepWords)) (word q (i * stepWords + 1)) (word q (i * stepWords + 2))
 
 -- a refused step leaves the board as it was, a refused fresh too
-unfoldable pub goOn : Course → Answer → Course
+unfoldable pub goOn : Midway → Answer → Midway
 goOn x a = cond (accepted (a .outcome)) (record { board = a .board; moved = true }) x
 
 -- the board after the first k steps, and whether one of them was accepted
-unfoldable pub after : List ℕ → Board → ℕ → Course
-after q b zero = record { board = b; moved = false }
-after q b (suc k) = goOn (after q b k) (stepAt q k (after q b k .board))
+unfoldable pub midway : List ℕ → Board → ℕ → Midway
+midway q b zero = record { board = b; moved = false }
+midway q b (suc k) = goOn (midway q b k) (stepAt q k (midway q b k .board))
 
 -- the answers of the first k steps, each at its place in s
 unfoldable pub answers : List ℕ → Board → List ℕ → ℕ → List ℕ
 answers q b s zero = s
-answers q b s (suc k) = said (answers q b s k) (k * answerWords) (stepAt q k (after q b k .board))
+answers q b s (suc k) = putAnswer (answers q b s k) (k * answerWords) (stepAt q k (midway q b k .board))
 
 -- if every step was refused nothing of the lent board is written
-unfoldable pub keptAfter : List ℕ → Course → List ℕ
+unfoldable pub keptAfter : List ℕ → Midway → List ℕ
 keptAfter w x = cond (x .moved) (encoded w (x .board)) w
 
 -- the steps in so many words
 abbrev pub stepsIn : ℕ → ℕ
 stepsIn q = q / stepWords
+
+-- the board after the whole list q, if the words are w, and all its answers
+abbrev pub lastOf : List ℕ → List ℕ → Midway
+lastOf w q = midway q (decoded w) (stepsIn (length q))
+
+abbrev pub answersOf : List ℕ → List ℕ → List ℕ → List ℕ
+answersOf w q s = answers q (decoded w) s (stepsIn (length q))
 
 -- by the lengths, 0: the steps were put to the board; 1: there are too few words for a board; 2: too few for the answers;
 -- 3: the words of the steps are not three for each
@@ -55,5 +63,5 @@ listCode w q s = listShortBy (length w) (length q) (length s)
 -- fit, nothing is written
 pub record Ran (w q s : List ℕ) (r : ℕ) (w' s' : List ℕ) : Type 0 where
   pub returned : r ≡ listCode w q s
-  pub board : w' ≡ cond (eqb (listCode w q s) 0) (keptAfter w (after q (decoded w) (stepsIn (length q)))) w
-  pub answered : s' ≡ cond (eqb (listCode w q s) 0) (answers q (decoded w) s (stepsIn (length q))) s
+  pub board : w' ≡ cond (eqb (listCode w q s) 0) (keptAfter w (lastOf w q)) w
+  pub answered : s' ≡ cond (eqb (listCode w q s) 0) (answersOf w q s) s

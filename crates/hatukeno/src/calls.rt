@@ -7,13 +7,14 @@ ghost use Rattle.parts.specs.declared.Release.the-variants.{One, Two};
 ghost use Rattle.board.specs.Steps.{setupOf, fresh, beginRead, beginWrite, nodeDown, consoleDown, nodeUp};
 ghost use Rattle.board.specs.Deliver.{deliver};
 ghost use Rattle.layout.specs.Layout.{boardWords};
-ghost use Rattle.hatukeno.specs.Calls.{answerWords, said, kept, shortBy, Called};
+ghost use Rattle.layout.specs.Standing.{decoded};
+ghost use Rattle.hatukeno.specs.Calls.{answerWords, putAnswer, kept, shortBy, Called};
 use board::Answer;
 use board::Board;
 use layout::BOARD_WORDS;
 use layout::reading::decode;
 use layout::writing::encode;
-use layout::writing::put_four;
+use layout::writing::put_words;
 use parts::ConsoleId;
 use parts::NodeId;
 use parts::Release;
@@ -24,14 +25,20 @@ pub(crate) const ANSWER_WORDS: usize = 6;
 // Writes the answer into six words from p on. The caller has seen that they are there.
 pub(crate) fn put_answer(s: &mut [u32], p: usize, a: Answer)
     requires { ⌜ p + answerWords ≤ length (now s) ⌝ }
-    ensures { λ r. ⌜ now (s .exit) ≡ said (now (s .entry)) p a ⌝ }
+    ensures { λ r. ⌜ now (s .exit) ≡ putAnswer (now (s .entry)) p a ⌝ }
 {
     let o = a.outcome;
     let t = o.tag();
-    put_four(s, p, o.number(), a.refusal, t.ts, t.console);
-    s[p + 4] = o.value();
     let compared = a.compared;
-    s[p + 5] = compared.number();
+    let fields = [
+        o.number(),
+        a.refusal,
+        t.ts,
+        t.console,
+        o.value(),
+        compared.number(),
+    ];
+    put_words(s, p, &fields);
 }
 
 // Writes the next board back, unless the step was refused. The caller has seen that the words reach for a board.
@@ -59,15 +66,14 @@ fn short_by(w: usize, s: usize) -> u32
     0
 }
 
-// The fresh board of n nodes and m consoles, under this release.
-fn fresh_under(w: &mut [u32], s: &mut [u32], n: u32, m: u32, release: Release) -> u32
-    ensures { λ r. ⌜ Called (λ b. fresh (setupOf n m release)) (now (w .entry)) (now (s .entry)) r (now (w .exit)) (now (s .exit)) ⌝ }
+// Writes the answer a of a step, and the next board unless the step was refused; nothing if memory is short.
+fn respond(w: &mut [u32], s: &mut [u32], a: Answer) -> u32
+    ensures { λ r. ⌜ Called a (now (w .entry)) (now (s .entry)) r (now (w .exit)) (now (s .exit)) ⌝ }
 {
     let short = short_by(w.len(), s.len());
     if short != 0 {
         return short;
     }
-    let a = Board::fresh_under(n, m, release);
     put_answer(s, 0, a);
     keep(w, a);
     0
@@ -77,105 +83,63 @@ fn fresh_under(w: &mut [u32], s: &mut [u32], n: u32, m: u32, release: Release) -
 // for a release that there is not.
 #[no_mangle]
 pub extern "C" fn board_fresh(w: &mut [u32], s: &mut [u32], n: u32, m: u32) -> u32
-    ensures { λ r. ⌜ Called (λ b. fresh (setupOf n m One)) (now (w .entry)) (now (s .entry)) r (now (w .exit)) (now (s .exit)) ⌝ }
+    ensures { λ r. ⌜ Called (fresh (setupOf n m One)) (now (w .entry)) (now (s .entry)) r (now (w .exit)) (now (s .exit)) ⌝ }
 {
-    fresh_under(w, s, n, m, Release::One)
+    respond(w, s, Board::fresh(n, m))
 }
 
 // The same under release 2.
 #[no_mangle]
 pub extern "C" fn board_fresh_release_2(w: &mut [u32], s: &mut [u32], n: u32, m: u32) -> u32
-    ensures { λ r. ⌜ Called (λ b. fresh (setupOf n m Two)) (now (w .entry)) (now (s .entry)) r (now (w .exit)) (now (s .exit)) ⌝ }
+    ensures { λ r. ⌜ Called (fresh (setupOf n m Two)) (now (w .entry)) (now (s .entry)) r (now (w .exit)) (now (s .exit)) ⌝ }
 {
-    fresh_under(w, s, n, m, Release::Two)
+    respond(w, s, Board::fresh_under(n, m, Release::Two))
 }
 
 // Console c begins a read.
 #[no_mangle]
 pub extern "C" fn board_begin_read(w: &mut [u32], s: &mut [u32], c: u32) -> u32
-    ensures { λ r. ⌜ Called (λ b. beginRead b c) (now (w .entry)) (now (s .entry)) r (now (w .exit)) (now (s .exit)) ⌝ }
+    ensures { λ r. ⌜ Called (beginRead (decoded (now (w .entry))) c) (now (w .entry)) (now (s .entry)) r (now (w .exit)) (now (s .exit)) ⌝ }
 {
-    let short = short_by(w.len(), s.len());
-    if short != 0 {
-        return short;
-    }
-    let a = decode(w).begin_read(ConsoleId(c));
-    put_answer(s, 0, a);
-    keep(w, a);
-    0
+    respond(w, s, decode(w).begin_read(ConsoleId(c)))
 }
 
 // Console c begins a write of v.
 #[no_mangle]
 pub extern "C" fn board_begin_write(w: &mut [u32], s: &mut [u32], c: u32, v: u32) -> u32
-    ensures { λ r. ⌜ Called (λ b. beginWrite b c v) (now (w .entry)) (now (s .entry)) r (now (w .exit)) (now (s .exit)) ⌝ }
+    ensures { λ r. ⌜ Called (beginWrite (decoded (now (w .entry))) c v) (now (w .entry)) (now (s .entry)) r (now (w .exit)) (now (s .exit)) ⌝ }
 {
-    let short = short_by(w.len(), s.len());
-    if short != 0 {
-        return short;
-    }
-    let a = decode(w).begin_write(ConsoleId(c), v);
-    put_answer(s, 0, a);
-    keep(w, a);
-    0
+    respond(w, s, decode(w).begin_write(ConsoleId(c), v))
 }
 
 // The frame between console c and node k is delivered.
 #[no_mangle]
 pub extern "C" fn board_deliver(w: &mut [u32], s: &mut [u32], c: u32, k: u32) -> u32
-    ensures { λ r. ⌜ Called (λ b. deliver b c k) (now (w .entry)) (now (s .entry)) r (now (w .exit)) (now (s .exit)) ⌝ }
+    ensures { λ r. ⌜ Called (deliver (decoded (now (w .entry))) c k) (now (w .entry)) (now (s .entry)) r (now (w .exit)) (now (s .exit)) ⌝ }
 {
-    let short = short_by(w.len(), s.len());
-    if short != 0 {
-        return short;
-    }
-    let a = decode(w).deliver(ConsoleId(c), NodeId(k));
-    put_answer(s, 0, a);
-    keep(w, a);
-    0
+    respond(w, s, decode(w).deliver(ConsoleId(c), NodeId(k)))
 }
 
 // Node k goes down.
 #[no_mangle]
 pub extern "C" fn board_node_down(w: &mut [u32], s: &mut [u32], k: u32) -> u32
-    ensures { λ r. ⌜ Called (λ b. nodeDown b k) (now (w .entry)) (now (s .entry)) r (now (w .exit)) (now (s .exit)) ⌝ }
+    ensures { λ r. ⌜ Called (nodeDown (decoded (now (w .entry))) k) (now (w .entry)) (now (s .entry)) r (now (w .exit)) (now (s .exit)) ⌝ }
 {
-    let short = short_by(w.len(), s.len());
-    if short != 0 {
-        return short;
-    }
-    let a = decode(w).node_down(NodeId(k));
-    put_answer(s, 0, a);
-    keep(w, a);
-    0
+    respond(w, s, decode(w).node_down(NodeId(k)))
 }
 
 // Console c goes down.
 #[no_mangle]
 pub extern "C" fn board_console_down(w: &mut [u32], s: &mut [u32], c: u32) -> u32
-    ensures { λ r. ⌜ Called (λ b. consoleDown b c) (now (w .entry)) (now (s .entry)) r (now (w .exit)) (now (s .exit)) ⌝ }
+    ensures { λ r. ⌜ Called (consoleDown (decoded (now (w .entry))) c) (now (w .entry)) (now (s .entry)) r (now (w .exit)) (now (s .exit)) ⌝ }
 {
-    let short = short_by(w.len(), s.len());
-    if short != 0 {
-        return short;
-    }
-    let a = decode(w).console_down(ConsoleId(c));
-    put_answer(s, 0, a);
-    keep(w, a);
-    0
+    respond(w, s, decode(w).console_down(ConsoleId(c)))
 }
 
 // Node k comes back.
 #[no_mangle]
 pub extern "C" fn board_node_up(w: &mut [u32], s: &mut [u32], k: u32) -> u32
-    ensures { λ r. ⌜ Called (λ b. nodeUp b k) (now (w .entry)) (now (s .entry)) r (now (w .exit)) (now (s .exit)) ⌝ }
+    ensures { λ r. ⌜ Called (nodeUp (decoded (now (w .entry))) k) (now (w .entry)) (now (s .entry)) r (now (w .exit)) (now (s .exit)) ⌝ }
 {
-    let short = short_by(w.len(), s.len());
-    if short != 0 {
-        return short;
-    }
-    let a = decode(w).node_up(NodeId(k));
-    put_answer(s, 0, a);
-    keep(w, a);
-    0
+    respond(w, s, decode(w).node_up(NodeId(k)))
 }

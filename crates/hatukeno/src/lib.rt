@@ -4,8 +4,8 @@ use board::Board;
 mod calls;
 mod lists;
 
-// The board in the course of a list of steps, and whether one of them has been accepted.
-pub struct Course {
+// The board midway through a list of steps, and whether one of them has been accepted.
+pub struct Midway {
     pub board: Board,
     pub moved: bool,
 }

@@ -6,8 +6,8 @@ ghost use lib.ListN.{length};
 ghost use Rattle.board.specs.WellFormed.{wellFormed};
 ghost use Rattle.layout.specs.Layout.{boardWords};
 ghost use Rattle.hatukeno.specs.Calls.{answerWords};
-ghost use Rattle.hatukeno.specs.Lists.{stepWords, stepAt, goOn, after, answers, keptAfter, stepsIn, listShortBy, Ran};
-use crate::Course;
+ghost use Rattle.hatukeno.specs.Lists.{stepWords, stepAt, goOn, midway, answers, keptAfter, stepsIn, lastOf, answersOf, listShortBy, Ran};
+use crate::Midway;
 use crate::calls::ANSWER_WORDS;
 use crate::calls::put_answer;
 use board::Answer;
@@ -37,7 +37,7 @@ fn list_short_by(w: usize, q: usize, s: usize) -> u32
 }
 
 // A refused step leaves the board as it was.
-fn go_on(x: Course, a: Answer) -> Course
+fn go_on(x: Midway, a: Answer) -> Midway
     ensures { λ r. ⌜ r ≡ goOn x a ⌝ }
 {
     let o = a.outcome;
@@ -45,14 +45,14 @@ fn go_on(x: Course, a: Answer) -> Course
         return x;
     }
     let b = a.board;
-    Course {
+    Midway {
         board: b,
         moved: true,
     }
 }
 
 // Writes the last board back, unless every step was refused. The caller has seen that the words reach for a board.
-fn keep_after(w: &mut [u32], x: Course)
+fn keep_after(w: &mut [u32], x: Midway)
     requires { ⌜ boardWords ≤ length (now w) ⌝ }
     ensures { λ r. ⌜ now (w .exit) ≡ keptAfter (now (w .entry)) x ⌝ }
 {
@@ -80,12 +80,12 @@ fn step_at(q: &[u32], i: usize, b: Board, formed: bool) -> Answer
 
 // Puts the steps to the board b, with their answers into s. The caller has seen that s reaches for them. Question 1 is asked once: a
 // well-formed board stays so. While it is not, question 1 is asked after each step, since a fresh may have made another board.
-fn run_steps(q: &[u32], s: &mut [u32], b: Board) -> Course
+fn run_steps(q: &[u32], s: &mut [u32], b: Board) -> Midway
     requires { ⌜ stepsIn (length (now q)) * answerWords ≤ length (now s) ⌝ }
-    ensures { λ r. ⌜ (r ≡ after (now (q .entry)) b (stepsIn (length (now (q .entry))))) × (now (s .exit) ≡ answers (now (q .entry)) b (now (s .entry)) (stepsIn (length (now (q .entry))))) ⌝ }
+    ensures { λ r. ⌜ (r ≡ midway (now (q .entry)) b (stepsIn (length (now (q .entry))))) × (now (s .exit) ≡ answers (now (q .entry)) b (now (s .entry)) (stepsIn (length (now (q .entry))))) ⌝ }
 {
     let count = q.len() / STEP_WORDS;
-    let mut x = Course {
+    let mut x = Midway {
         board: b,
         moved: false,
     };
@@ -104,6 +104,15 @@ fn run_steps(q: &[u32], s: &mut [u32], b: Board) -> Course
     x
 }
 
+// Puts the list to the board in w, with the answers into s and the last board back into w. The caller has seen to the lengths.
+fn run_list(w: &mut [u32], q: &[u32], s: &mut [u32])
+    requires { ⌜ (boardWords ≤ length (now w)) × (stepsIn (length (now q)) * answerWords ≤ length (now s)) ⌝ }
+    ensures { λ r. ⌜ (now (w .exit) ≡ keptAfter (now (w .entry)) (lastOf (now (w .entry)) (now (q .entry)))) × (now (s .exit) ≡ answersOf (now (w .entry)) (now (q .entry)) (now (s .entry))) ⌝ }
+{
+    let x = run_steps(q, s, decode(w));
+    keep_after(w, x);
+}
+
 // The list of steps q: three words each, the step's number and its two numbers.
 #[no_mangle]
 pub extern "C" fn board_run(w: &mut [u32], q: &[u32], s: &mut [u32]) -> u32
@@ -113,7 +122,6 @@ pub extern "C" fn board_run(w: &mut [u32], q: &[u32], s: &mut [u32]) -> u32
     if short != 0 {
         return short;
     }
-    let x = run_steps(q, s, decode(w));
-    keep_after(w, x);
+    run_list(w, q, s);
     0
 }

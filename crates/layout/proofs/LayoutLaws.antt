@@ -1,13 +1,15 @@
 -- Laws of the numbers of states and frames, and of reading and writing one part more.
-use Prim.Native.Nat.{ℕ, zero, suc, _+_, _≤_}
+use Prim.Native.Nat.{ℕ, zero, suc, _+_, _≤_, _<_}
 use mathlib.Core.Bool.{Bool, true, false}
-use mathlib.Core.List.{List}
+use mathlib.Core.List.{List, [], _∷_}
 use mathlib.Core.Path.{_≡_, refl}
+use native.Mathlib.Nat.{add-zero}
 use native.Mathlib.Numerals.{add-one}
 use native.Mathlib.Omega.{arith}
 use borrow.Author.Tests.{eqb-true, eqb-false}
 use lib.Dec.{eqb}
-use lib.ListN.{getD, set}
+use lib.ListN.{length, getD, set, take}
+use lib.Seq.{sets}
 use Rattle.parts.specs.declared.Tag.{Tag}
 use Rattle.parts.specs.declared.Frame.the-variants.{Ack}
 use Rattle.parts.specs.declared.State.the-variants.{Down}
@@ -36,10 +38,10 @@ pub from-more : {A : Type 0} (from : List ℕ → ℕ → A) (place : ℕ → �
 unfolding allFrom
 from-more from place xs k w = rw add-one
 
-pub put-more : {A : Type 0} (put : List ℕ → ℕ → A → List ℕ) (place : ℕ → ℕ) (d : A) (xs : List A) (k : ℕ) (w : List ℕ)
-    → put (putAll put place d xs k w) (place k) (getD xs k d) ≡ putAll put place d xs (k + 1) w
+pub put-more : {A : Type 0} (fields : A → List ℕ) (place : ℕ → ℕ) (d : A) (xs : List A) (k : ℕ) (w : List ℕ)
+    → sets (putAll fields place d xs k w) (place k) (fields (getD xs k d)) ≡ putAll fields place d xs (k + 1) w
 unfolding putAll
-put-more put place d xs k w = rw add-one
+put-more fields place d xs k w = rw add-one
 
 pub bytes-more : (xs : List Console) (k : ℕ) → Bytes xs k → Byte (getD xs k idleConsole) → Bytes xs (k + 1)
 bytes-more xs k h last c l = go (eqb c k) refl
@@ -47,3 +49,10 @@ bytes-more xs k h last c l = go (eqb c k) refl
     go : (t : Bool) → eqb c k ≡ t → Byte (getD xs c idleConsole)
     go true e = rw (eqb-true c k e) last
     go false e = h c (omega (arith, eqb-false c k e))
+
+pub sets-more : (u w : List ℕ) (p i : ℕ) → i < length u → set (sets w p (take i u)) (p + i) (getD u i 0) ≡ sets w p (take (suc i) u)
+sets-more [] w p i l = absurd (omega arith)
+sets-more (x ∷ u) w p zero l = rw (add-zero p)
+sets-more (x ∷ u) w p (suc i) l =
+    let e : p + suc i ≡ suc p + i = omega arith in
+    rw e (sets-more u (set w p x) (suc p) i (omega arith))

@@ -1,3 +1,8 @@
--- Laws of the layout; encoding and then decoding a board gives that board (RoundTrip).
+-- Laws of reading and writing one part more (LayoutLaws), of words that stand for a board (StandingLaws); parts stored in words and read again (Stored, PartsBack); and the claims.
 pub mod LayoutLaws
+pub mod StandingLaws
+pub mod Stored
+pub mod PartsBack
 pub mod RoundTrip
+pub mod WrittenBack
+pub mod Damaged

@@ -1,17 +1,19 @@
-// Reading a board from words. Any words whatever are some board's.
+// Reading a board from words. The private functions read any number as something; decode refuses what stands for no board.
 ghost use mathlib.Core.Path.{_≡_};
 ghost use Prim.Native.Nat.{_+_, _≤_};
 ghost use lib.ListN.{length, replicate};
 ghost use Rattle.parts.specs.declared.Frame.the-variants.{Nothing};
+ghost use Rattle.parts.specs.Limits.{maxNodes, maxConsoles, maxCells};
 ghost use Rattle.parts.specs.Parts.{freshNode, idleConsole, cellOf};
-ghost use Rattle.layout.specs.Layout.{boardWords, nodePlace, consolePlace, cellPlace, releaseOf, nodeFrom, stateOf, consoleFrom, frameOf, cellFrom, allFrom, decoded};
-use crate::BOARD_WORDS;
+ghost use Rattle.layout.specs.Layout.{nodeWords, consoleWords, cellWords, boardWords, nodePlace, consolePlace, cellPlace, releaseOf, nodeFrom, stateOf, consoleFrom, frameOf, cellFrom, allFrom, boardIn};
+ghost use Rattle.layout.specs.Standing.{decoded};
 use crate::CELL_WORDS;
 use crate::CELLS_AT;
 use crate::CONSOLE_WORDS;
 use crate::CONSOLES_AT;
 use crate::NODE_WORDS;
 use crate::NODES_AT;
+use crate::standing::is_standing;
 use board::Board;
 use parts::CELLS;
 use parts::CONSOLES;
@@ -26,7 +28,6 @@ use parts::Setup;
 use parts::State;
 use parts::Tag;
 
-// What is not release 2 is read as release 1.
 fn release_of(i: u32) -> Release
     ensures { λ r. ⌜ r ≡ releaseOf i ⌝ }
 {
@@ -38,7 +39,7 @@ fn release_of(i: u32) -> Release
 
 // The private functions below that read words are called where the words reach far enough.
 fn node_from(w: &[u32], p: usize) -> Node
-    requires { ⌜ p + 4 ≤ length (now w) ⌝ }
+    requires { ⌜ p + nodeWords ≤ length (now w) ⌝ }
     ensures { λ r. ⌜ r ≡ nodeFrom (now (w .entry)) p ⌝ }
 {
     let t = Tag {
@@ -66,7 +67,7 @@ fn state_of(s: u32) -> State
 }
 
 fn console_from(w: &[u32], p: usize) -> Console
-    requires { ⌜ p + 7 ≤ length (now w) ⌝ }
+    requires { ⌜ p + consoleWords ≤ length (now w) ⌝ }
     ensures { λ r. ⌜ r ≡ consoleFrom (now (w .entry)) p ⌝ }
 {
     let s = state_of(w[p]);
@@ -97,7 +98,7 @@ fn frame_of(f: u32, t: Tag, v: u32) -> Frame
 }
 
 fn cell_from(w: &[u32], p: usize) -> Cell
-    requires { ⌜ p + 4 ≤ length (now w) ⌝ }
+    requires { ⌜ p + cellWords ≤ length (now w) ⌝ }
     ensures { λ r. ⌜ r ≡ cellFrom (now (w .entry)) p ⌝ }
 {
     let t = Tag {
@@ -110,15 +111,9 @@ fn cell_from(w: &[u32], p: usize) -> Cell
 
 fn nodes_from(w: &[u32]) -> [Node; NODES]
     requires { ⌜ boardWords ≤ length (now w) ⌝ }
-    ensures { λ r. ⌜ r ≡ allFrom nodeFrom nodePlace (replicate 5 freshNode) 5 (now (w .entry)) ⌝ }
+    ensures { λ r. ⌜ r ≡ allFrom nodeFrom nodePlace (replicate maxNodes freshNode) maxNodes (now (w .entry)) ⌝ }
 {
-    let zero = Tag { ts: 0, console: 0 };
-    let x = Node {
-        up: true,
-        tag: zero,
-        value: 0,
-    };
-    let mut nodes = [x; NODES];
+    let mut nodes = [Node::FRESH; NODES];
     let mut k: usize = 0;
     while k < NODES {
         let y = node_from(w, NODES_AT + k * NODE_WORDS);
@@ -130,18 +125,9 @@ fn nodes_from(w: &[u32]) -> [Node; NODES]
 
 fn consoles_from(w: &[u32]) -> [Console; CONSOLES]
     requires { ⌜ boardWords ≤ length (now w) ⌝ }
-    ensures { λ r. ⌜ r ≡ allFrom consoleFrom consolePlace (replicate 8 idleConsole) 8 (now (w .entry)) ⌝ }
+    ensures { λ r. ⌜ r ≡ allFrom consoleFrom consolePlace (replicate maxConsoles idleConsole) maxConsoles (now (w .entry)) ⌝ }
 {
-    let zero = Tag { ts: 0, console: 0 };
-    let x = Console {
-        state: State::Idle,
-        wanted: 0,
-        answered: 0,
-        best: zero,
-        value: 0,
-        alike: false,
-    };
-    let mut consoles = [x; CONSOLES];
+    let mut consoles = [Console::IDLE; CONSOLES];
     let mut c: usize = 0;
     while c < CONSOLES {
         let y = console_from(w, CONSOLES_AT + c * CONSOLE_WORDS);
@@ -153,7 +139,7 @@ fn consoles_from(w: &[u32]) -> [Console; CONSOLES]
 
 fn cells_from(w: &[u32]) -> [Cell; CELLS]
     requires { ⌜ boardWords ≤ length (now w) ⌝ }
-    ensures { λ r. ⌜ r ≡ allFrom cellFrom cellPlace (replicate 40 (cellOf Nothing)) 40 (now (w .entry)) ⌝ }
+    ensures { λ r. ⌜ r ≡ allFrom cellFrom cellPlace (replicate maxCells (cellOf Nothing)) maxCells (now (w .entry)) ⌝ }
 {
     let x = Cell {
         frame: Frame::Nothing,
@@ -170,7 +156,7 @@ fn cells_from(w: &[u32]) -> [Cell; CELLS]
 
 fn board_from(w: &[u32]) -> Board
     requires { ⌜ boardWords ≤ length (now w) ⌝ }
-    ensures { λ r. ⌜ r ≡ decoded (now (w .entry)) ⌝ }
+    ensures { λ r. ⌜ r ≡ boardIn (now (w .entry)) ⌝ }
 {
     let setup = Setup {
         n: w[0],
@@ -188,13 +174,12 @@ fn board_from(w: &[u32]) -> Board
     }
 }
 
-// The board in the first 239 words. Fewer words are read as if all were 0; the contract leaves that open.
+// The board in the first words. Words that stand for no board, too few of them too, are read as one that is not well formed.
 pub fn decode(w: &[u32]) -> Board
-    ensures { λ r. ⌜ (boardWords ≤ length (now (w .entry)) → r ≡ decoded (now (w .entry))) ⌝ }
+    ensures { λ r. ⌜ r ≡ decoded (now (w .entry)) ⌝ }
 {
-    if w.len() < BOARD_WORDS {
-        let none = [0; BOARD_WORDS];
-        return board_from(&none);
+    if !is_standing(w) {
+        return Board::none();
     }
     board_from(w)
 }

@@ -2,8 +2,11 @@
 ghost use mathlib.Core.Path.{_≡_};
 ghost use Prim.Native.Nat.{_+_, _≤_, _<_};
 ghost use lib.ListN.{length};
+ghost use lib.Seq.{sets};
 ghost use Rattle.parts.specs.Finite.{one};
-ghost use Rattle.layout.specs.Layout.{boardWords, releaseNumber, putFour, putNode, stateNumber, kindNumber, putConsole, frameNumber, frameTag, frameValue, putCell, putNodes, putConsoles, putCells, encoded, decoded, Byte, Bytes};
+ghost use Rattle.parts.specs.Limits.{maxNodes, maxConsoles, maxCells};
+ghost use Rattle.layout.specs.Layout.{setupWords, nodeWords, consoleWords, cellWords, boardWords, releaseNumber, setupFields, nodeFields, stateNumber, kindNumber, consoleFields, frameNumber, frameTag, frameValue, cellFields, putNodes, putConsoles, putCells, encoded, Byte, Bytes};
+ghost use Rattle.layout.specs.Standing.{decoded};
 use crate::BOARD_WORDS;
 use crate::CELL_WORDS;
 use crate::CELLS_AT;
@@ -23,6 +26,7 @@ use parts::NODES;
 use parts::Node;
 use parts::NodeId;
 use parts::Release;
+use parts::Setup;
 use parts::State;
 use parts::Tag;
 use parts::nodes::node_in;
@@ -36,16 +40,33 @@ fn release_number(release: Release) -> u32
     }
 }
 
+// Writes the fields into the words from p on. Words that do not reach so far are left as they are. Nothing is added to p before
+// that is known, since the sum may be too large for a usize.
+pub fn put_words(w: &mut [u32], p: usize, fields: &[u32])
+    ensures { λ r. ⌜ (p + length (now (fields .entry)) ≤ length (now (w .entry)) → now (w .exit) ≡ sets (now (w .entry)) p (now (fields .entry))) × (length (now (w .entry)) < p + length (now (fields .entry)) → now (w .exit) ≡ now (w .entry)) ⌝ }
+{
+    if w.len() < fields.len() {
+        return;
+    }
+    if p > w.len() - fields.len() {
+        return;
+    }
+    let mut i: usize = 0;
+    while i < fields.len() {
+        w[p + i] = fields[i];
+        i += 1;
+    }
+}
+
 // The private functions below that write words are called where the words reach far enough. Those of arrays and of
 // consoles also tell what their arguments' types say (a length, a byte), since reading back rests on it.
-fn put_four_at(w: &mut [u32], p: usize, a: u32, b: u32, c: u32, d: u32)
-    requires { ⌜ p + 4 ≤ length (now w) ⌝ }
-    ensures { λ r. ⌜ now (w .exit) ≡ putFour (now (w .entry)) p a b c d ⌝ }
+fn put_setup(w: &mut [u32], setup: Setup)
+    requires { ⌜ setupWords ≤ length (now w) ⌝ }
+    ensures { λ r. ⌜ now (w .exit) ≡ sets (now (w .entry)) 0 (setupFields setup) ⌝ }
 {
-    w[p] = a;
-    w[p + 1] = b;
-    w[p + 2] = c;
-    w[p + 3] = d;
+    let release = setup.release;
+    let fields = [setup.n, setup.m, release_number(release)];
+    put_words(w, 0, &fields);
 }
 
 fn flag(u: bool) -> u32
@@ -55,15 +76,16 @@ fn flag(u: bool) -> u32
 }
 
 fn put_node(w: &mut [u32], p: usize, x: Node)
-    requires { ⌜ p + 4 ≤ length (now w) ⌝ }
-    ensures { λ r. ⌜ now (w .exit) ≡ putNode (now (w .entry)) p x ⌝ }
+    requires { ⌜ p + nodeWords ≤ length (now w) ⌝ }
+    ensures { λ r. ⌜ now (w .exit) ≡ sets (now (w .entry)) p (nodeFields x) ⌝ }
 {
-    put_four_at(w, p, flag(x.up), x.tag.ts, x.tag.console, x.value);
+    let fields = [flag(x.up), x.tag.ts, x.tag.console, x.value];
+    put_words(w, p, &fields);
 }
 
 fn put_nodes(w: &mut [u32], nodes: [Node; NODES])
     requires { ⌜ boardWords ≤ length (now w) ⌝ }
-    ensures { λ r. ⌜ (now (w .exit) ≡ putNodes nodes 5 (now (w .entry))) × (length nodes ≡ 5) ⌝ }
+    ensures { λ r. ⌜ (now (w .exit) ≡ putNodes nodes maxNodes (now (w .entry))) × (length nodes ≡ maxNodes) ⌝ }
 {
     let mut k: u32 = 0;
     while k < MAX_NODES {
@@ -103,26 +125,25 @@ fn telling_number(w: Kind) -> u32
 }
 
 fn put_console(w: &mut [u32], p: usize, x: Console)
-    requires { ⌜ p + 7 ≤ length (now w) ⌝ }
-    ensures { λ r. ⌜ (now (w .exit) ≡ putConsole (now (w .entry)) p x) × Byte x ⌝ }
+    requires { ⌜ p + consoleWords ≤ length (now w) ⌝ }
+    ensures { λ r. ⌜ (now (w .exit) ≡ sets (now (w .entry)) p (consoleFields x)) × Byte x ⌝ }
 {
     let s = x.state;
-    put_four_at(
-        w,
-        p,
+    let fields = [
         state_number(s),
         x.wanted,
         x.answered as u32,
         x.best.ts,
-    );
-    w[p + 4] = x.best.console;
-    w[p + 5] = x.value;
-    w[p + 6] = flag(x.alike);
+        x.best.console,
+        x.value,
+        flag(x.alike),
+    ];
+    put_words(w, p, &fields);
 }
 
 fn put_consoles(w: &mut [u32], consoles: [Console; CONSOLES])
     requires { ⌜ boardWords ≤ length (now w) ⌝ }
-    ensures { λ r. ⌜ (now (w .exit) ≡ putConsoles consoles 8 (now (w .entry))) × (length consoles ≡ 8) × Bytes consoles 8 ⌝ }
+    ensures { λ r. ⌜ (now (w .exit) ≡ putConsoles consoles maxConsoles (now (w .entry))) × (length consoles ≡ maxConsoles) × Bytes consoles maxConsoles ⌝ }
 {
     let mut c: usize = 0;
     while c < CONSOLES {
@@ -147,7 +168,7 @@ fn frame_number(f: Frame) -> u32
 fn frame_tag(f: Frame) -> Tag
     ensures { λ r. ⌜ r ≡ frameTag f ⌝ }
 {
-    let zero = Tag { ts: 0, console: 0 };
+    let zero = Tag::ZERO;
     match f {
         Frame::Nothing => zero,
         Frame::Ask => zero,
@@ -170,17 +191,18 @@ fn frame_value(f: Frame) -> u32
 }
 
 fn put_cell(w: &mut [u32], p: usize, x: Cell)
-    requires { ⌜ p + 4 ≤ length (now w) ⌝ }
-    ensures { λ r. ⌜ now (w .exit) ≡ putCell (now (w .entry)) p x ⌝ }
+    requires { ⌜ p + cellWords ≤ length (now w) ⌝ }
+    ensures { λ r. ⌜ now (w .exit) ≡ sets (now (w .entry)) p (cellFields x) ⌝ }
 {
     let f = x.frame;
     let t = frame_tag(f);
-    put_four_at(w, p, frame_number(f), t.ts, t.console, frame_value(f));
+    let fields = [frame_number(f), t.ts, t.console, frame_value(f)];
+    put_words(w, p, &fields);
 }
 
 fn put_cells(w: &mut [u32], cells: [Cell; CELLS])
     requires { ⌜ boardWords ≤ length (now w) ⌝ }
-    ensures { λ r. ⌜ (now (w .exit) ≡ putCells cells 40 (now (w .entry))) × (length cells ≡ 40) ⌝ }
+    ensures { λ r. ⌜ (now (w .exit) ≡ putCells cells maxCells (now (w .entry))) × (length cells ≡ maxCells) ⌝ }
 {
     let mut i: usize = 0;
     while i < CELLS {
@@ -195,10 +217,7 @@ fn put_board(w: &mut [u32], b: Board)
     ensures { λ r. ⌜ (now (w .exit) ≡ encoded (now (w .entry)) b) × (decoded (now (w .exit)) ≡ b) ⌝ }
 {
     let setup = b.setup;
-    w[0] = setup.n;
-    w[1] = setup.m;
-    let release = setup.release;
-    w[2] = release_number(release);
+    put_setup(w, setup);
     let nodes = b.nodes;
     put_nodes(w, nodes);
     let consoles = b.consoles;
@@ -207,25 +226,11 @@ fn put_board(w: &mut [u32], b: Board)
     put_cells(w, cells);
 }
 
-// Writes the board into the first 239 words, from which it can be read back. Shorter words are left as they are.
+// Writes the board into the first words, from which it can be read back. Words too few for a board are left as they are.
 pub fn encode(w: &mut [u32], b: Board)
     ensures { λ r. ⌜ (boardWords ≤ length (now (w .entry)) → (now (w .exit) ≡ encoded (now (w .entry)) b) × (decoded (now (w .exit)) ≡ b)) × (length (now (w .entry)) < boardWords → now (w .exit) ≡ now (w .entry)) ⌝ }
 {
     if w.len() >= BOARD_WORDS {
         put_board(w, b);
-    }
-}
-
-// Writes four words from p on. Words that do not reach so far are left as they are. Nothing is added to p, since p + 4 may
-// be too large for a usize.
-pub fn put_four(w: &mut [u32], p: usize, a: u32, b: u32, c: u32, d: u32)
-    ensures { λ r. ⌜ (p + 4 ≤ length (now (w .entry)) → now (w .exit) ≡ putFour (now (w .entry)) p a b c d) × (length (now (w .entry)) < p + 4 → now (w .exit) ≡ now (w .entry)) ⌝ }
-{
-    let n = w.len();
-    if n < 4 {
-        return;
-    }
-    if p <= n - 4 {
-        put_four_at(w, p, a, b, c, d);
     }
 }

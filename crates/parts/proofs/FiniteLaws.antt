@@ -61,6 +61,12 @@ every-fails p (suc n) i h e = go (every-fails p n i) (eqb i n) refl
     go rest true f = and-false (every n p) (p n) (rw (eqb-true i n f) at e)
     go rest false f = rw (rest (omega (arith, eqb-false i n f)) e)
 
+-- a test that holds of each number below n
+pub every-of : (p : ℕ → Bool) (n : ℕ) → ((k : ℕ) → k < n → p k ≡ true) → every n p ≡ true
+unfolding every
+every-of p zero h = refl
+every-of p (suc n) h = rw (every-of p n (λ k l. h k (omega arith)), h n (omega arith))
+
 -- what a test over all the numbers below n says of one of them
 pub every-at : (p : ℕ → Bool) (n : ℕ) → every n p ≡ true → (k : ℕ) → k < n → p k ≡ true
 unfolding every

@@ -7,6 +7,9 @@ use crate::Compared;
 use crate::Tag;
 
 impl Tag {
+    // The tag before any write.
+    pub const ZERO: Tag = Tag { ts: 0, console: 0 };
+
     // One number for the tag (document 02, Paper 5). In 64 bits there is room for every timestamp and console number.
     fn key(self) -> u64
         ensures { λ r. ⌜ r ≡ key self ⌝ }

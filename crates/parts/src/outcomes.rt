@@ -5,8 +5,6 @@ use crate::Compared;
 use crate::Outcome;
 use crate::Tag;
 
-const ZERO: Tag = Tag { ts: 0, console: 0 };
-
 impl Outcome {
     // Whether the step was accepted: not refused.
     pub fn is_accepted(self) -> bool
@@ -43,13 +41,13 @@ impl Outcome {
         ensures { λ r. ⌜ r ≡ outcomeTag self ⌝ }
     {
         match self {
-            Outcome::Refused => ZERO,
-            Outcome::Done => ZERO,
-            Outcome::Handed => ZERO,
-            Outcome::Heard => ZERO,
-            Outcome::Turned => ZERO,
+            Outcome::Refused => Tag::ZERO,
+            Outcome::Done => Tag::ZERO,
+            Outcome::Handed => Tag::ZERO,
+            Outcome::Heard => Tag::ZERO,
+            Outcome::Turned => Tag::ZERO,
             Outcome::Finished(t, _) => t,
-            Outcome::Discarded => ZERO,
+            Outcome::Discarded => Tag::ZERO,
         }
     }
 

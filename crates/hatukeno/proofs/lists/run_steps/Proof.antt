@@ -1,12 +1,12 @@
 -- Invariant: the first i steps have been put to the board, their answers are written, and formed says whether the board is well formed. One turn
--- of the loop is one step more (after-more, answers-more), and a well-formed board stays so (still-formed).
+-- of the loop is one step more (midway-more, answers-more), and a well-formed board stays so (still-formed).
 use mathlib.Core.Path.{_≡_, ap, _∙_}
 use Prim.Native.Nat.{_≤_, _-_}
 use native.Mathlib.Omega.{arith}
 use lib.ListN.{length}
 use Rattle.board.specs.WellFormed.{wellFormed}
-use Rattle.hatukeno.specs.Lists.{after, answers, stepsIn}
-use Rattle.hatukeno.proofs.ListsLaws.{after-more, answers-more, answers-long, still-formed}
+use Rattle.hatukeno.specs.Lists.{midway, answers, stepsIn}
+use Rattle.hatukeno.proofs.ListsLaws.{midway-more, answers-more, answers-long, still-formed}
 use borrow.Author.Needs.{needs}
 use Rattle.hatukeno.proofs.lists.run_steps.Statement.{statement}
 use Rattle.hatukeno.proofs.lists.run_steps.Tie as tie
@@ -14,7 +14,7 @@ use Rattle.hatukeno.proofs.lists.run_steps.Tie as tie
 abbrev Inv-loop : tie.InvT-loop
 Inv-loop q s₀ count x₀ formed₀ i₀ s x formed i =
     (i ≤ count)
-    × (x ≡ after q (x₀ .board) i)
+    × (x ≡ midway q (x₀ .board) i)
     × (s ≡ answers q (x₀ .board) s₀ i)
     × (formed ≡ wellFormed (x .board))
 
@@ -25,7 +25,7 @@ is-well-formed-requires : tie.Need-is-well-formed-requires Inv-loop μ-loop
 is-well-formed-requires c κs = search needs
 
 loop-holds : tie.Need-loop-holds Inv-loop μ-loop
-unfolding after answers
+unfolding midway answers
 loop-holds c = search needs
 
 step-at-requires : tie.Need-step-at-requires Inv-loop μ-loop
@@ -52,12 +52,12 @@ loop-less c = search needs
 loop-again : tie.Need-loop-again Inv-loop μ-loop
 loop-again c =
     let went = c .before .before .before in
-    let said = went .before .before .before in
-    let stepped = said .before .before in
+    let put = went .before .before .before in
+    let stepped = put .before .before in
     let turn = stepped .before .before .loop in (
       search needs,
-      rw (went .go-on .ensures, stepped .step-at .ensures, turn .inv .1) (after-more _ _ _),
-      rw (said .put-answer .ensures, stepped .step-at .ensures, turn .inv .2, turn .inv .1) (answers-more _ _ _ _),
+      rw (went .go-on .ensures, stepped .step-at .ensures, turn .inv .1) (midway-more _ _ _),
+      rw (put .put-answer .ensures, stepped .step-at .ensures, turn .inv .2, turn .inv .1) (answers-more _ _ _ _),
       c .is-well-formed2 .ensures,
     )
 
@@ -67,12 +67,12 @@ loop-less-2 c = search needs
 loop-again-2 : tie.Need-loop-again-2 Inv-loop μ-loop
 loop-again-2 c =
     let went = c .before in
-    let said = went .before .before .before in
-    let stepped = said .before .before in
+    let put = went .before .before .before in
+    let stepped = put .before .before in
     let turn = stepped .before .before .loop in (
       search needs,
-      rw (went .go-on .ensures, stepped .step-at .ensures, turn .inv .1) (after-more _ _ _),
-      rw (said .put-answer .ensures, stepped .step-at .ensures, turn .inv .2, turn .inv .1) (answers-more _ _ _ _),
+      rw (went .go-on .ensures, stepped .step-at .ensures, turn .inv .1) (midway-more _ _ _),
+      rw (put .put-answer .ensures, stepped .step-at .ensures, turn .inv .2, turn .inv .1) (answers-more _ _ _ _),
       still-formed _ _ _ (turn .x) _ (turn .inv .3) (c .if1 .left) (rw (stepped .step-at .ensures) at (went .go-on .ensures)),
     )
 

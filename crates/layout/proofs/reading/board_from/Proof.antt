@@ -1,6 +1,6 @@
 -- Each part is the definition's.
 use borrow.Author.Needs.{needs}
-use Rattle.layout.specs.Layout.{decoded}
+use Rattle.layout.specs.Layout.{boardIn}
 use Rattle.layout.proofs.reading.board_from.Statement.{statement}
 use Rattle.layout.proofs.reading.board_from.Tie as tie
 
@@ -26,7 +26,7 @@ cells-from-requires : tie.Need-cells-from-requires
 cells-from-requires c κs = search needs
 
 returns : tie.Need-returns
-unfolding decoded
+unfolding boardIn
 returns c = rw (c .before .before .before .release-of .ensures, c .before .before .nodes-from .ensures, c .before .consoles-from .ensures, c .cells-from .ensures)
 
 pub board-from-spec : {M : Type 1} → statement M

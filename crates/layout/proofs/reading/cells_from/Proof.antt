@@ -6,16 +6,17 @@ use borrow.Author.Needs.{needs}
 use lib.ListN.{replicate}
 use Rattle.layout.proofs.LayoutLaws.{from-more}
 use Rattle.layout.specs.Layout.{cellPlace, cellFrom, allFrom}
+use Rattle.parts.specs.Limits.{maxCells}
 use Rattle.parts.specs.Parts.{cellOf}
 use Rattle.parts.specs.declared.Frame.the-variants.{Nothing}
 use Rattle.layout.proofs.reading.cells_from.Statement.{statement}
 use Rattle.layout.proofs.reading.cells_from.Tie as tie
 
 abbrev Inv-loop : tie.InvT-loop
-Inv-loop w cells₀ i₀ cells i = (i ≤ 40) × (cells ≡ allFrom cellFrom cellPlace (replicate 40 (cellOf Nothing)) i w)
+Inv-loop w cells₀ i₀ cells i = (i ≤ maxCells) × (cells ≡ allFrom cellFrom cellPlace (replicate maxCells (cellOf Nothing)) i w)
 
 abbrev μ-loop : tie.MeasureT-loop
-μ-loop w cells₀ i₀ cells i = 40 - i
+μ-loop w cells₀ i₀ cells i = maxCells - i
 
 loop-holds : tie.Need-loop-holds Inv-loop μ-loop
 unfolding allFrom
@@ -47,7 +48,7 @@ loop-again c = (search needs, rw (c .before .before .loop .inv .1, c .cell-from 
 
 returns : tie.Need-returns Inv-loop μ-loop
 returns c =
-    let e : c .before .loop .i ≡ 40 = omega arith in
+    let e : c .before .loop .i ≡ maxCells = omega arith in
     rw e at (c .before .loop .inv .1)
 
 pub cells-from-spec : {M : Type 1} → statement M

@@ -6,15 +6,16 @@ use borrow.Author.Needs.{needs}
 use lib.ListN.{replicate}
 use Rattle.layout.proofs.LayoutLaws.{from-more}
 use Rattle.layout.specs.Layout.{consolePlace, consoleFrom, allFrom}
+use Rattle.parts.specs.Limits.{maxConsoles}
 use Rattle.parts.specs.Parts.{idleConsole}
 use Rattle.layout.proofs.reading.consoles_from.Statement.{statement}
 use Rattle.layout.proofs.reading.consoles_from.Tie as tie
 
 abbrev Inv-loop : tie.InvT-loop
-Inv-loop w consoles₀ c₀ consoles c = (c ≤ 8) × (consoles ≡ allFrom consoleFrom consolePlace (replicate 8 idleConsole) c w)
+Inv-loop w consoles₀ c₀ consoles c = (c ≤ maxConsoles) × (consoles ≡ allFrom consoleFrom consolePlace (replicate maxConsoles idleConsole) c w)
 
 abbrev μ-loop : tie.MeasureT-loop
-μ-loop w consoles₀ c₀ consoles c = 8 - c
+μ-loop w consoles₀ c₀ consoles c = maxConsoles - c
 
 loop-holds : tie.Need-loop-holds Inv-loop μ-loop
 unfolding allFrom
@@ -46,7 +47,7 @@ loop-again c = (search needs, rw (c .before .before .loop .inv .1, c .console-fr
 
 returns : tie.Need-returns Inv-loop μ-loop
 returns c =
-    let e : c .before .loop .c ≡ 8 = omega arith in
+    let e : c .before .loop .c ≡ maxConsoles = omega arith in
     rw e at (c .before .loop .inv .1)
 
 pub consoles-from-spec : {M : Type 1} → statement M

@@ -6,15 +6,16 @@ use borrow.Author.Needs.{needs}
 use lib.ListN.{replicate}
 use Rattle.layout.proofs.LayoutLaws.{from-more}
 use Rattle.layout.specs.Layout.{nodePlace, nodeFrom, allFrom}
+use Rattle.parts.specs.Limits.{maxNodes}
 use Rattle.parts.specs.Parts.{freshNode}
 use Rattle.layout.proofs.reading.nodes_from.Statement.{statement}
 use Rattle.layout.proofs.reading.nodes_from.Tie as tie
 
 abbrev Inv-loop : tie.InvT-loop
-Inv-loop w nodes₀ k₀ nodes k = (k ≤ 5) × (nodes ≡ allFrom nodeFrom nodePlace (replicate 5 freshNode) k w)
+Inv-loop w nodes₀ k₀ nodes k = (k ≤ maxNodes) × (nodes ≡ allFrom nodeFrom nodePlace (replicate maxNodes freshNode) k w)
 
 abbrev μ-loop : tie.MeasureT-loop
-μ-loop w nodes₀ k₀ nodes k = 5 - k
+μ-loop w nodes₀ k₀ nodes k = maxNodes - k
 
 loop-holds : tie.Need-loop-holds Inv-loop μ-loop
 unfolding allFrom
@@ -46,7 +47,7 @@ loop-again c = (search needs, rw (c .before .before .loop .inv .1, c .node-from 
 
 returns : tie.Need-returns Inv-loop μ-loop
 returns c =
-    let e : c .before .loop .k ≡ 5 = omega arith in
+    let e : c .before .loop .k ≡ maxNodes = omega arith in
     rw e at (c .before .loop .inv .1)
 
 pub nodes-from-spec : {M : Type 1} → statement M

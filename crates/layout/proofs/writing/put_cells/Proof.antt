@@ -4,6 +4,7 @@ use Prim.Native.Nat.{_≤_, _-_}
 use native.Mathlib.Omega.{arith}
 use borrow.Author.Needs.{needs}
 use lib.ListN.{length}
+use Rattle.parts.specs.Limits.{maxCells}
 use Rattle.layout.proofs.RoundTrip.{cells-long}
 use Rattle.layout.proofs.LayoutLaws.{put-more}
 use Rattle.layout.specs.Layout.{putAll, putCells}
@@ -11,10 +12,10 @@ use Rattle.layout.proofs.writing.put_cells.Statement.{statement}
 use Rattle.layout.proofs.writing.put_cells.Tie as tie
 
 abbrev Inv-loop : tie.InvT-loop
-Inv-loop w₀ cells i₀ w i = (i ≤ 40) × (w ≡ putCells cells i w₀)
+Inv-loop w₀ cells i₀ w i = (i ≤ maxCells) × (w ≡ putCells cells i w₀)
 
 abbrev μ-loop : tie.MeasureT-loop
-μ-loop w₀ cells i₀ w i = 40 - i
+μ-loop w₀ cells i₀ w i = maxCells - i
 
 loop-holds : tie.Need-loop-holds Inv-loop μ-loop
 unfolding putAll
@@ -49,7 +50,7 @@ same-length c = ap length (c .before .loop .inv .1) ∙ cells-long _ _ _
 
 returns : tie.Need-returns Inv-loop μ-loop
 returns c =
-    let e : c .before .loop .i ≡ 40 = omega arith in
+    let e : c .before .loop .i ≡ maxCells = omega arith in
     (rw e at (c .before .loop .inv .1), search needs)
 
 pub put-cells-spec : {M : Type 1} → statement M

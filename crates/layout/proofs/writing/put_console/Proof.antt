@@ -1,74 +1,43 @@
--- The seven words are the definition's.
-use mathlib.Core.Path.{ap}
+-- The fields are the definition's, and an answered set is a byte by its type.
 use native.Mathlib.Omega.{arith}
 use borrow.Author.Needs.{needs}
-use lib.ListN.{length, length-set}
-use Rattle.layout.specs.Layout.{putConsole}
+use Rattle.layout.specs.Layout.{consoleFields}
 use Rattle.layout.proofs.writing.put_console.Statement.{statement}
 use Rattle.layout.proofs.writing.put_console.Tie as tie
 
 state-number-requires : tie.Need-state-number-requires
 state-number-requires c κs = search needs
 
-cast-put-four-at : tie.Need-cast-put-four-at
-cast-put-four-at c = search needs
-
-put-four-at-requires : tie.Need-put-four-at-requires
-put-four-at-requires c κs = search needs
-
-add-w : tie.Need-add-w
-add-w c = search needs
-
-mul-w : tie.Need-mul-w
-mul-w c = search needs
-
-slice-write-w : tie.Need-slice-write-w
-slice-write-w c = search needs
-
-add-w-2 : tie.Need-add-w-2
-add-w-2 c = search needs
-
-mul-w-2 : tie.Need-mul-w-2
-mul-w-2 c = search needs
-
-slice-write-w-2 : tie.Need-slice-write-w-2
-slice-write-w-2 c = simp length-set (omega (arith, simp length-set at (ap length (c .before .before .put-four-at .ensures))))
+cast-t7 : tie.Need-cast-t7
+cast-t7 c = search needs
 
 flag-requires : tie.Need-flag-requires
 flag-requires c κs = search needs
 
-add-w-3 : tie.Need-add-w-3
-add-w-3 c = search needs
+slice-aggregate-put-words : tie.Need-slice-aggregate-put-words
+slice-aggregate-put-words c = search needs
 
-mul-w-3 : tie.Need-mul-w-3
-mul-w-3 c = search needs
-
-slice-write-w-3 : tie.Need-slice-write-w-3
-slice-write-w-3 c = simp length-set (omega (arith, simp length-set at (ap length (c .before .before .before .put-four-at .ensures))))
+put-words-requires : tie.Need-put-words-requires
+put-words-requires c κs = search needs
 
 same-length : tie.Need-same-length
 same-length c = search needs
 
 returns : tie.Need-returns
-unfolding putConsole
-returns c = (rw (c .before .before .before .put-four-at .ensures, c .before .before .before .before .before .state-number .ensures, c .flag .ensures), search needs)
+unfolding consoleFields
+returns c =
+    let put = c .before .before in
+    let mark = put .before .before .before in
+    (rw (← mark .before .before .state-number .ensures, ← mark .flag .ensures) (put .put-words .ensures .0 (omega arith)), search needs)
 
 pub put-console-spec : {M : Type 1} → statement M
 put-console-spec =
     tie.close
     (tie.spec
     state-number-requires
-    cast-put-four-at
-    put-four-at-requires
-    add-w
-    mul-w
-    slice-write-w
-    add-w-2
-    mul-w-2
-    slice-write-w-2
+    cast-t7
     flag-requires
-    add-w-3
-    mul-w-3
-    slice-write-w-3
+    slice-aggregate-put-words
+    put-words-requires
     same-length
     returns)

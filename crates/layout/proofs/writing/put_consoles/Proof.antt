@@ -4,6 +4,7 @@ use Prim.Native.Nat.{_≤_, _-_}
 use native.Mathlib.Omega.{arith}
 use borrow.Author.Needs.{needs}
 use lib.ListN.{length}
+use Rattle.parts.specs.Limits.{maxConsoles}
 use Rattle.layout.proofs.RoundTrip.{consoles-long}
 use Rattle.layout.proofs.LayoutLaws.{put-more, bytes-more}
 use Rattle.layout.specs.Layout.{putAll, putConsoles, Bytes}
@@ -11,10 +12,10 @@ use Rattle.layout.proofs.writing.put_consoles.Statement.{statement}
 use Rattle.layout.proofs.writing.put_consoles.Tie as tie
 
 abbrev Inv-loop : tie.InvT-loop
-Inv-loop w₀ consoles c₀ w c = (c ≤ 8) × (w ≡ putConsoles consoles c w₀) × Bytes consoles c
+Inv-loop w₀ consoles c₀ w c = (c ≤ maxConsoles) × (w ≡ putConsoles consoles c w₀) × Bytes consoles c
 
 abbrev μ-loop : tie.MeasureT-loop
-μ-loop w₀ consoles c₀ w c = 8 - c
+μ-loop w₀ consoles c₀ w c = maxConsoles - c
 
 loop-holds : tie.Need-loop-holds Inv-loop μ-loop
 unfolding putAll
@@ -49,7 +50,7 @@ same-length c = ap length (c .before .loop .inv .1) ∙ consoles-long _ _ _
 
 returns : tie.Need-returns Inv-loop μ-loop
 returns c =
-    let e : c .before .loop .c ≡ 8 = omega arith in
+    let e : c .before .loop .c ≡ maxConsoles = omega arith in
     (rw e at (c .before .loop .inv .1), search needs, rw e at (c .before .loop .inv .2))
 
 pub put-consoles-spec : {M : Type 1} → statement M

@@ -4,6 +4,7 @@ use Prim.Native.Nat.{_≤_, _-_}
 use native.Mathlib.Omega.{arith}
 use borrow.Author.Needs.{needs}
 use lib.ListN.{length}
+use Rattle.parts.specs.Limits.{maxNodes}
 use Rattle.layout.proofs.RoundTrip.{nodes-long}
 use Rattle.layout.proofs.LayoutLaws.{put-more}
 use Rattle.layout.specs.Layout.{putAll, putNodes}
@@ -12,10 +13,10 @@ use Rattle.layout.proofs.writing.put_nodes.Statement.{statement}
 use Rattle.layout.proofs.writing.put_nodes.Tie as tie
 
 abbrev Inv-loop : tie.InvT-loop
-Inv-loop w₀ nodes k₀ w k = (k ≤ 5) × (w ≡ putNodes nodes k w₀)
+Inv-loop w₀ nodes k₀ w k = (k ≤ maxNodes) × (w ≡ putNodes nodes k w₀)
 
 abbrev μ-loop : tie.MeasureT-loop
-μ-loop w₀ nodes k₀ w k = 5 - k
+μ-loop w₀ nodes k₀ w k = maxNodes - k
 
 loop-holds : tie.Need-loop-holds Inv-loop μ-loop
 unfolding putAll
@@ -51,7 +52,7 @@ same-length c = ap length (c .before .loop .inv .1) ∙ nodes-long _ _ _
 
 returns : tie.Need-returns Inv-loop μ-loop
 returns c =
-    let e : c .before .loop .k ≡ 5 = omega arith in
+    let e : c .before .loop .k ≡ maxNodes = omega arith in
     (rw e at (c .before .loop .inv .1), search needs)
 
 pub put-nodes-spec : {M : Type 1} → statement M
