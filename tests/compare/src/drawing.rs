@@ -1,6 +1,5 @@
 //! Schedules for the comparison: some at every edge of the rules for lines, and any number by chance, of good lines and damaged ones.
-use crate::chance::Chance;
-use crate::model::Step;
+use common::{Chance, Step};
 
 /// What a damaged line may have for a field.
 const ODD_FIELDS: [&str; 40] = [
@@ -249,13 +248,11 @@ impl Drawing<'_> {
 
     /// Verb and numbers of a step that may be taken; a number that it has no use for is any.
     fn step(&mut self) -> [u32; 3] {
-        match self.chance.step(self.n, self.m, self.crashes) {
-            Step::BeginRead(c) => [1, c, self.chance.value()],
-            Step::BeginWrite(c, v) => [2, c, v],
-            Step::Deliver(c, k) => [3, c, k],
-            Step::NodeDown(k) => [4, k, self.chance.value()],
-            Step::ConsoleDown(c) => [5, c, self.chance.value()],
-            Step::NodeUp(k) => [6, k, self.chance.value()],
+        let step = self.chance.step(self.n, self.m, self.crashes);
+        let [verb, first, second] = step.numbers();
+        match step {
+            Step::BeginWrite(..) | Step::Deliver(..) => [verb, first, second],
+            _ => [verb, first, self.chance.value()],
         }
     }
 

@@ -5,7 +5,6 @@
 //!     compare --as-model [--fault F] <SCHEDULE
 //!
 //! The second writes what the model answers to the schedule.
-mod chance;
 mod drawing;
 mod faults;
 mod known;
@@ -18,7 +17,8 @@ mod schedule;
 mod schedules;
 mod words;
 
-use chance::Chance;
+use common::arguments::{Arguments, RACK};
+use common::Chance;
 use faults::{Fault, PUT_IN_32_BITS, REPLY_IN_32_BITS};
 use hatukeno::{Board, Refusal, BOARD_WORDS};
 use marks::Marks;
@@ -116,17 +116,6 @@ fn both(board: &mut Board, model: &mut Model, step: Step, fault: Fault) -> Answe
     expected
 }
 
-fn in_list(step: Step) -> hatukeno::Step {
-    match step {
-        Step::BeginRead(console) => hatukeno::Step::BeginRead { console },
-        Step::BeginWrite(console, value) => hatukeno::Step::BeginWrite { console, value },
-        Step::Deliver(console, node) => hatukeno::Step::Deliver { console, node },
-        Step::NodeDown(node) => hatukeno::Step::NodeDown { node },
-        Step::ConsoleDown(console) => hatukeno::Step::ConsoleDown { console },
-        Step::NodeUp(node) => hatukeno::Step::NodeUp { node },
-    }
-}
-
 /// Puts the list to a board: the answers must be the model's, and the last board the one that the steps left one by one.
 fn listed(mut board: Board, list: &[hatukeno::Step], answers: &[Answer], last: &Board) {
     let said = board.run(list);
@@ -163,7 +152,7 @@ fn one_by_one(n: u32, m: u32, release: Release, steps: &[Step], fault: Fault, co
 fn run(n: u32, m: u32, crashes: bool, chance: &mut Chance, fault: Fault, counts: &mut [Counts; 2]) {
     fresh(n, m);
     let steps: Vec<Step> = (0..LENGTH).map(|_| chance.step(n, m, crashes)).collect();
-    let list: Vec<hatukeno::Step> = steps.iter().copied().map(in_list).collect();
+    let list: Vec<hatukeno::Step> = steps.iter().copied().map(Into::into).collect();
     let ran = RELEASES.map(|release| one_by_one(n, m, release, &steps, fault, &mut counts[release as usize]));
     let half = steps.len() / 2;
     for (release, Ran { answers, board }) in RELEASES.iter().zip(&ran) {
@@ -214,7 +203,7 @@ impl Late {
             self.puts_wrapped += goes_otherwise(PUT_IN_32_BITS);
             self.replies_wrapped += goes_otherwise(REPLY_IN_32_BITS);
             answers.push(both(&mut board, &mut model, step, fault));
-            list.push(in_list(step));
+            list.push(step.into());
         }
         listed(first, &list, &answers, &board);
         for Answer { outcome, compared } in answers {
@@ -229,7 +218,7 @@ impl Late {
 
 /// A board of either release some steps into a run, fewer than this many.
 fn some_board(n: u32, m: u32, most: u32, chance: &mut Chance) -> Words {
-    let (mut board, _) = made(n, m, chance.release());
+    let (mut board, _) = made(n, m, RELEASES[chance.below(2) as usize]);
     for _ in 0..chance.below(most) {
         let step = chance.step(n, m, true);
         let _ = put(&mut board, step);
@@ -351,41 +340,20 @@ fn options() -> Options {
         lines: 200_000,
         seed: 1,
         fault: 0,
-        rack: PathBuf::from("target/bin/rack"),
+        rack: PathBuf::from(RACK),
         as_model: false,
     };
-    let mut words = std::env::args().skip(1);
-    while let Some(word) = words.next() {
-        if word == "--as-model" {
-            options.as_model = true;
-            continue;
-        }
-        let Some(next) = words.next() else {
-            eprintln!("compare: {word} needs a word after it");
-            exit(2);
-        };
-        if word == "--rack" {
-            options.rack = PathBuf::from(next);
-            continue;
-        }
-        let Ok(number) = next.parse::<u64>() else {
-            eprintln!("compare: {word} needs a number after it");
-            exit(2);
-        };
-        match word.as_str() {
-            "--steps" => options.steps = number,
-            "--damaged" => options.damaged = number,
-            "--lines" => options.lines = number,
-            "--seed" => options.seed = number,
-            "--fault" if number <= u64::from(faults::LAST) => options.fault = number as Fault,
-            "--fault" => {
-                eprintln!("compare: there is no fault {number}; the last is {}", faults::LAST);
-                exit(2);
-            }
-            _ => {
-                eprintln!("compare: {word} is none of --steps, --damaged, --lines, --seed, --fault, --rack, --as-model");
-                exit(2);
-            }
+    let names = &["--steps", "--damaged", "--lines", "--seed", "--rack", "--fault", "--as-model"];
+    let mut words = Arguments::new("compare", names);
+    while let Some(name) = words.next_name() {
+        match name {
+            "--steps" => options.steps = words.number(u64::MAX),
+            "--damaged" => options.damaged = words.number(u64::MAX),
+            "--lines" => options.lines = words.number(u64::MAX),
+            "--seed" => options.seed = words.number(u64::MAX),
+            "--rack" => options.rack = PathBuf::from(words.word()),
+            "--fault" => options.fault = words.number(u64::from(faults::LAST)) as Fault,
+            _ => options.as_model = true,
         }
     }
     options

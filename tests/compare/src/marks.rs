@@ -1,10 +1,10 @@
 //! Paper 3's rule for the mark, clause by clause: boards on which one console's mark is wrong and all else is as a run left it, and
 //! beside each the same board with the mark put right.
-use crate::chance::Chance;
 use crate::faults::Fault;
 use crate::model::{Console, State, Step};
-use crate::words::{self, place_of_mark, Words};
-use crate::{both, in_list, listed, put, some_board};
+use crate::words::{self, mark, Words};
+use crate::{both, listed, put, some_board};
+use common::Chance;
 use hatukeno::{Board, Refusal};
 use std::process::exit;
 
@@ -103,12 +103,12 @@ impl Marks {
         }
         *tried += 1;
         let any_on = [1, 1, 2, 255, 256, u32::MAX][chance.below(6) as usize];
-        for mark in [0, any_on] {
+        for number in [0, any_on] {
             let mut words = words;
-            words[place_of_mark(c)] = mark;
+            words[mark(c)] = number;
             let is_good = match here {
-                Place::Telling | Place::Idle | Place::Down | Place::NoneAnswered => mark == 0,
-                Place::OneAnswered => mark != 0,
+                Place::Telling | Place::Idle | Place::Down | Place::NoneAnswered => number == 0,
+                Place::OneAnswered => number != 0,
                 Place::TwoOn | Place::TwoOff => true,
             };
             try_board(words, c, is_good, chance, fault);
@@ -155,7 +155,7 @@ fn try_board(words: Words, c: u32, is_good: bool, chance: &mut Chance, fault: Fa
     for step in steps {
         let said = put(&mut board.clone(), step);
         if (said == Err(Refusal(1))) == is_good {
-            println!("{step:?} answered {said:?} where console {c}'s mark is {}", words[place_of_mark(c)]);
+            println!("{step:?} answered {said:?} where console {c}'s mark is {}", words[mark(c)]);
             println!("the board is {model:?}");
             exit(1);
         }
@@ -163,5 +163,5 @@ fn try_board(words: Words, c: u32, is_good: bool, chance: &mut Chance, fault: Fa
     }
     let (mut last, mut next) = (board.clone(), model);
     let answers = steps.map(|step| both(&mut last, &mut next, step, fault));
-    listed(board, &steps.map(in_list), &answers, &last);
+    listed(board, &steps.map(Into::into), &answers, &last);
 }

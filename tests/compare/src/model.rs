@@ -1,5 +1,6 @@
 //! The board as document 01 and Papers 2, 3, 4 and 6 say it, in sets and maps. Nothing here is shared with the library.
 use crate::faults::*;
+pub use common::{Kind, State, Step};
 use std::cmp::Ordering;
 use std::collections::{BTreeMap, BTreeSet};
 
@@ -30,20 +31,6 @@ impl Frame {
     pub fn goes_to_node(&self) -> bool {
         matches!(self, Frame::Ask | Frame::Put(..))
     }
-}
-
-#[derive(Clone, Copy, Debug, PartialEq, Eq)]
-pub enum Kind {
-    Read,
-    Write,
-}
-
-#[derive(Clone, Copy, Debug, PartialEq, Eq)]
-pub enum State {
-    Idle,
-    Asking(Kind),
-    Telling(Kind),
-    Down,
 }
 
 #[derive(Clone, Debug, PartialEq, Eq)]
@@ -99,16 +86,6 @@ pub struct Model {
     pub nodes: BTreeMap<u32, Node>,
     pub consoles: BTreeMap<u32, Console>,
     pub cells: BTreeMap<(u32, u32), Frame>,
-}
-
-#[derive(Clone, Copy, Debug, PartialEq, Eq)]
-pub enum Step {
-    BeginRead(u32),
-    BeginWrite(u32, u32),
-    Deliver(u32, u32),
-    NodeDown(u32),
-    ConsoleDown(u32),
-    NodeUp(u32),
 }
 
 #[derive(Clone, Copy, Debug, PartialEq, Eq)]

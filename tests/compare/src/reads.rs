@@ -6,11 +6,11 @@
 //!
 //! In both the consoles begin in turn, each some time after it is idle, frames are delivered in a drawn order, and nothing goes
 //! down. Both releases have the same begins in the same order, and a run goes on until all is finished and delivered.
-use crate::chance::Chance;
 use crate::faults::Fault;
 use crate::model::{Kind, Model, Release, State, Step, RELEASES};
 use crate::rules::{Counts, Run};
 use crate::{both, made};
+use common::Chance;
 use std::process::exit;
 
 /// The operations of a run.

@@ -1,11 +1,11 @@
 //! The release in the words (Paper 4): boards on which a read lacks one reply, with the same tag as all before it, and on which
 //! the release is changed and nothing else. Whatever the number, the board is well formed; the reply finishes the read where the
 //! number is 2, and turns it where it is any other.
-use crate::chance::Chance;
 use crate::faults::Fault;
 use crate::model::{Compared, Outcome, Release, Step};
 use crate::words::{self, Words, RELEASE};
 use crate::{both, some_board};
+use common::Chance;
 use hatukeno::Board;
 use std::process::exit;
 

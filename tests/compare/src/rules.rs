@@ -4,7 +4,7 @@
 //! show, counted: finishes, node ups, how replies compared and what they did to the mark, and frames that were withdrawn.
 use crate::faults::{Fault, BOUND_ONE_LESS, EARLY_BOUND_ONE_LESS, MAJORITY_ONE_LESS, READS_HIGHER};
 use crate::model::{Answer, Compared, Frame, Outcome, Step, Tag};
-use crate::words::{place_of_mark, read};
+use crate::words::{mark, read};
 use hatukeno::{Board, Refusal};
 use std::collections::{BTreeMap, BTreeSet};
 use std::process::exit;
@@ -88,7 +88,7 @@ impl Counts {
             Compared::Same => self.same += 1,
             Compared::Higher => self.higher += 1,
         }
-        let is_on = |board: &Board| board.words()[place_of_mark(c)] != 0;
+        let is_on = |board: &Board| board.words()[mark(c)] != 0;
         match (is_on(from), is_on(to), answer.outcome) {
             (false, true, _) => self.set += 1,
             (true, true, _) => self.kept += 1,

@@ -1,9 +1,9 @@
 //! Puts schedules to the program and to the model, and stops at the first difference.
-use crate::chance::Chance;
 use crate::drawing::{edges, Drawing};
 use crate::faults::Fault;
 use crate::model::Outcome;
 use crate::schedule::{answers, lines, written, Answer};
+use common::Chance;
 use std::collections::BTreeMap;
 use std::io::{self, Read, Write};
 use std::path::Path;
