@@ -60,5 +60,8 @@ pub fn of_processes() -> f64 {
     let mut usage = Usage::default();
     // SAFETY: `Usage` is C's rusage on 64-bit Linux, and is lent for the call.
     assert_eq!(unsafe { getrusage(CHILDREN, &mut usage) }, 0, "what processes took cannot be read");
-    [usage.user, usage.system].iter().map(|time| time.seconds as f64 + time.parts as f64 / 1e6).sum()
+    [usage.user, usage.system]
+        .iter()
+        .map(|time| time.seconds as f64 + time.parts as f64 / 1e6)
+        .sum()
 }
