@@ -6,12 +6,11 @@
 //!
 //! In both the consoles begin in turn, each some time after it is idle, frames are delivered in a drawn order, and nothing goes
 //! down. Both releases have the same begins in the same order, and a run goes on until all is finished and delivered.
+use crate::beside::{both, differ, made, Agreed};
 use crate::faults::Fault;
-use crate::model::{Kind, Model, Release, State, Step, RELEASES};
+use crate::model::{Kind, Model, Release, State, Step};
 use crate::rules::{Counts, Run};
-use crate::{both, made};
 use common::Chance;
-use std::process::exit;
 
 /// The operations of a run.
 const OPERATIONS: u32 = 1000;
@@ -56,7 +55,7 @@ fn some_delivery(board: &Model, chance: &mut Chance) -> Option<Step> {
     Some(Step::Deliver(*c, *k))
 }
 
-fn run(n: u32, m: u32, release: Release, load: Load, begins: &[Begin], chance: &mut Chance, fault: Fault) -> Counts {
+fn run(n: u32, m: u32, release: Release, load: Load, begins: &[Begin], chance: &mut Chance, fault: Fault) -> Agreed<Counts> {
     let (mut board, mut model) = made(n, m, release);
     let (mut held, mut counts) = (Run::fresh(n, fault), Counts::default());
     let mut begins = begins.iter().peekable();
@@ -70,10 +69,10 @@ fn run(n: u32, m: u32, release: Release, load: Load, begins: &[Begin], chance: &
             continue;
         };
         let before = board.clone();
-        let answer = both(&mut board, &mut model, step, fault);
-        held.take(step, answer, &before, &board, &mut counts);
+        let answer = both(&mut board, &mut model, step, fault)?;
+        held.take(step, answer, &before, &board, &mut counts)?;
     }
-    counts
+    Ok(counts)
 }
 
 /// What was seen on one size, under each release.
@@ -90,12 +89,15 @@ pub struct Reads {
 }
 
 impl Reads {
-    pub fn run(&mut self, n: u32, m: u32, chance: &mut Chance, fault: Fault) {
-        let [quiet, busy] = [Load::Quiet, Load::Busy].map(|load| {
+    pub fn run(&mut self, n: u32, m: u32, chance: &mut Chance, fault: Fault) -> Agreed {
+        let mut under_both = |load: Load| -> Agreed<[Counts; 2]> {
             let (begins, seed) = (load.begins(m, chance), chance.next());
-            RELEASES.map(|release| run(n, m, release, load, &begins, &mut Chance(seed), fault))
-        });
+            let under = |release| run(n, m, release, load, &begins, &mut Chance(seed), fault);
+            Ok([under(Release::One)?, under(Release::Two)?])
+        };
+        let (quiet, busy) = (under_both(Load::Quiet)?, under_both(Load::Busy)?);
         self.sizes.push(Size { n, m, quiet, busy });
+        Ok(())
     }
 
     pub fn print(&self) {
@@ -113,10 +115,10 @@ impl Reads {
         }
     }
 
-    /// Ends the program unless all operations finished and the reads are as Paper 4 has them: under release 1 none finishes early;
+    /// Whether all operations finished and the reads are as Paper 4 has them: under release 1 none finishes early;
     /// under release 2 some of a quiet board's do, and all together take less than under release 1, and some of a busy one's tell,
     /// if there is more than one node and console.
-    pub fn hold(&self) {
+    pub fn hold(&self) -> Agreed {
         for Size { n, m, quiet, busy } in &self.sizes {
             let is_whole = |counts: &Counts| counts.finished.operations == u64::from(OPERATIONS);
             let never_early = |counts: &Counts| counts.early.operations == 0;
@@ -134,9 +136,9 @@ impl Reads {
             } else {
                 continue;
             };
-            println!("n = {n}, m = {m}: {wrong}");
-            exit(1);
+            return differ(&[format!("n = {n}, m = {m}: {wrong}")]);
         }
+        Ok(())
     }
 }
 

@@ -2,12 +2,12 @@
 //! majority after each accepted step, the delivery bound at each delivery, the freshness rule at each finish. They are the same
 //! under both releases; an early finish (Paper 4) is held to half the bound besides, since it takes one phase. And what the runs
 //! show, counted: finishes, node ups, how replies compared and what they did to the mark, and frames that were withdrawn.
+use crate::beside::{differ, Agreed};
 use crate::faults::{Fault, BOUND_ONE_LESS, EARLY_BOUND_ONE_LESS, MAJORITY_ONE_LESS, READS_HIGHER};
 use crate::model::{Answer, Compared, Frame, Outcome, Step, Tag};
 use crate::words::{mark, read};
 use hatukeno::{Board, Refusal};
 use std::collections::{BTreeMap, BTreeSet};
-use std::process::exit;
 
 /// Finished operations, and their accepted deliveries: of all together, and the most of one.
 #[derive(Clone, Copy, Default)]
@@ -127,26 +127,27 @@ impl Run {
         }
     }
 
-    /// Takes in a step with its answer, from one board of the library to the next. If a rule is broken, that ends the program.
-    pub fn take(&mut self, step: Step, answer: Answer, from: &Board, to: &Board, counts: &mut Counts) {
+    /// Takes in a step with its answer, from one board of the library to the next.
+    pub fn take(&mut self, step: Step, answer: Answer, from: &Board, to: &Board, counts: &mut Counts) -> Agreed {
         if let Step::Deliver(c, k) = step {
             counts.add_delivery(c, k, answer, from, to);
         }
         match (step, answer.outcome) {
-            (_, Ok(_)) => self.accept(step, answer, from, to, counts),
+            (_, Ok(_)) => self.accept(step, answer, from, to, counts)?,
             (Step::NodeDown(_), Err(9)) | (Step::NodeUp(_), Err(14)) => counts.twice += 1,
             _ => {}
         }
+        Ok(())
     }
 
-    fn accept(&mut self, step: Step, answer: Answer, from: &Board, to: &Board, counts: &mut Counts) {
+    fn accept(&mut self, step: Step, answer: Answer, from: &Board, to: &Board, counts: &mut Counts) -> Agreed {
         match step {
             Step::BeginRead(c) => self.begin(c, false),
             Step::BeginWrite(c, _) => self.begin(c, true),
             Step::ConsoleDown(c) => {
                 self.open.remove(&c);
             }
-            Step::Deliver(c, _) => self.deliver(c, answer, counts),
+            Step::Deliver(c, _) => self.deliver(c, answer, counts)?,
             Step::NodeDown(k) => {
                 self.down.insert(k);
             }
@@ -157,7 +158,7 @@ impl Run {
                 counts.again += self.stuck(from).filter(|c| self.has_frame(*c, to)).count() as u64;
             }
         }
-        self.hold_progress(to);
+        self.hold_progress(to)
     }
 
     fn begin(&mut self, c: u32, wrote: bool) {
@@ -165,14 +166,14 @@ impl Run {
         self.open.insert(c, Open { wrote, taken: 0, before });
     }
 
-    fn deliver(&mut self, c: u32, answer: Answer, counts: &mut Counts) {
+    fn deliver(&mut self, c: u32, answer: Answer, counts: &mut Counts) -> Agreed {
         let one_phase = u64::from(self.n + self.majority());
         let Some(operation) = self.open.get_mut(&c) else {
-            return;
+            return Ok(());
         };
         operation.taken += 1;
         let (taken, wrote) = (operation.taken, operation.wrote);
-        self.hold_bound(taken, 2 * one_phase - u64::from(self.fault == BOUND_ONE_LESS));
+        self.hold_bound(taken, 2 * one_phase - u64::from(self.fault == BOUND_ONE_LESS))?;
         if let Ok(Outcome::Finished(tag, _)) = answer.outcome {
             counts.finished.add(taken);
             if !wrote {
@@ -180,41 +181,45 @@ impl Run {
             }
             if answer.compared != Compared::None {
                 counts.early.add(taken);
-                self.hold_bound(taken, one_phase - u64::from(self.fault == EARLY_BOUND_ONE_LESS));
+                self.hold_bound(taken, one_phase - u64::from(self.fault == EARLY_BOUND_ONE_LESS))?;
             }
-            self.finish(c, tag);
+            self.finish(c, tag)?;
         }
+        Ok(())
     }
 
-    fn hold_bound(&self, taken: u64, most: u64) {
+    fn hold_bound(&self, taken: u64, most: u64) -> Agreed {
         if taken > most {
-            println!("n = {}: an operation took {taken} deliveries, more than {most}", self.n);
-            exit(1);
+            let n = self.n;
+            return differ(&[format!("n = {n}: an operation took {taken} deliveries, more than {most}")]);
         }
+        Ok(())
     }
 
-    fn finish(&mut self, c: u32, tag: Tag) {
-        let Some(operation) = self.open.remove(&c) else {
-            return;
+    fn finish(&mut self, c: u32, tag: Tag) -> Agreed {
+        let Some(Open { wrote, before, .. }) = self.open.remove(&c) else {
+            return Ok(());
         };
-        let higher = operation.wrote || self.fault == READS_HIGHER;
-        if Some(tag) < operation.before || higher && Some(tag) == operation.before {
-            println!("console {c} finished with tag {tag:?} after {:?} was finished", operation.before);
-            exit(1);
+        let higher = wrote || self.fault == READS_HIGHER;
+        if Some(tag) < before || higher && Some(tag) == before {
+            return differ(&[format!("console {c} finished with tag {tag:?} after {before:?} was finished")]);
         }
         self.highest = self.highest.max(Some(tag));
+        Ok(())
     }
 
-    fn hold_progress(&self, board: &Board) {
+    fn hold_progress(&self, board: &Board) -> Agreed {
         let up = self.n - self.down.len() as u32;
         if up + u32::from(self.fault == MAJORITY_ONE_LESS) < self.majority() {
-            return;
+            return Ok(());
         }
-        if let Some(c) = self.stuck(board).next() {
-            println!("console {c} has an operation open and no frame that can be delivered");
-            println!("of {} machines those that are down are {:?}", self.n, self.down);
-            println!("the words of the board are {:?}", board.words());
-            exit(1);
+        match self.stuck(board).next() {
+            Some(c) => differ(&[
+                format!("console {c} has an operation open and no frame that can be delivered"),
+                format!("of {} machines those that are down are {:?}", self.n, self.down),
+                format!("the words of the board are {:?}", board.words()),
+            ]),
+            None => Ok(()),
         }
     }
 
