@@ -1,5 +1,5 @@
 //! Puts steps to the library and to the model beside it.
-use crate::faults::Fault;
+use crate::faults::Faulty;
 use crate::model::{Answer, Compared, Model, Outcome, Release, Step};
 use crate::words;
 use hatukeno::{Board, Refusal};
@@ -77,15 +77,15 @@ fn alike(library: &Said, model: &Answer) -> bool {
 }
 
 /// Puts the step to both, and gives the model's answer. A difference is told whole.
-pub fn both(board: &mut Board, model: &mut Model, step: Step, fault: Fault) -> Agreed<Answer> {
+pub fn both(board: &mut Board, model: &mut Model, step: Step, faulty: Faulty) -> Agreed<Answer> {
     let before = *board.words();
     let library = put(board, step);
-    let (expected, next) = model.step(step, fault);
+    let (expected, next) = faulty.step(model, step);
     let after = if expected.outcome.is_ok() { words::write(&next) } else { before };
     if !alike(&library, &expected) || *board.words() != after {
         return differ(&[
             format!("a difference at {step:?}"),
-            format!("the board was {:?}", words::read(&before, 0)),
+            format!("the board was {:?}", words::read(&before)),
             format!("its words were {before:?}"),
             format!("the library answered {library:?}, its words are {:?}", board.words()),
             format!("the model answered {expected:?}, its board is {next:?}"),

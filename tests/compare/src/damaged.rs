@@ -1,8 +1,8 @@
 //! Boards with words out of place.
 use crate::beside::{both, made, put, Agreed};
-use crate::faults::Fault;
+use crate::faults::Faulty;
 use crate::model::{Step, MAX_TS, RELEASES};
-use crate::words::{self, Words};
+use crate::words::Words;
 use common::Chance;
 use hatukeno::{Board, BOARD_WORDS};
 
@@ -35,8 +35,8 @@ pub struct Damaged {
 
 impl Damaged {
     /// Seven steps on a board of which so many words were set, each from there.
-    fn put(&mut self, words: Words, set: u32, (n, m): (u32, u32), chance: &mut Chance, fault: Fault) -> Agreed {
-        let model = words::read(&words, fault);
+    fn put(&mut self, words: Words, set: u32, (n, m): (u32, u32), chance: &mut Chance, faulty: Faulty) -> Agreed {
+        let model = faulty.read(&words);
         let steps = [
             Step::BeginRead(chance.number(m)),
             Step::BeginWrite(chance.number(m), 7),
@@ -47,9 +47,9 @@ impl Damaged {
             Step::NodeUp(chance.number(n)),
         ];
         for step in steps {
-            both(&mut Board::from_words(words), &mut model.clone(), step, fault)?;
+            both(&mut Board::from_words(words), &mut model.clone(), step, faulty)?;
         }
-        if model.is_well_formed(fault) {
+        if faulty.is_well_formed(&model) {
             self.well += 1;
         } else {
             self.ill += 1;
@@ -59,20 +59,20 @@ impl Damaged {
     }
 
     /// Every word of a board at every edge, one at a time.
-    pub fn sweep(&mut self, n: u32, m: u32, chance: &mut Chance, fault: Fault) -> Agreed {
+    pub fn sweep(&mut self, n: u32, m: u32, chance: &mut Chance, faulty: Faulty) -> Agreed {
         let words = some_board(n, m, 30, chance);
         for i in 0..BOARD_WORDS {
             for number in edges(n) {
                 let mut damaged = words;
                 damaged[i] = number;
-                self.put(damaged, 1, (n, m), chance, fault)?;
+                self.put(damaged, 1, (n, m), chance, faulty)?;
             }
         }
         Ok(())
     }
 
     /// A board with one word out of place, one time in four more.
-    pub fn draw(&mut self, chance: &mut Chance, fault: Fault) -> Agreed {
+    pub fn draw(&mut self, chance: &mut Chance, faulty: Faulty) -> Agreed {
         let (n, m) = (1 + chance.below(5), 1 + chance.below(8));
         let mut words = some_board(n, m, 30, chance);
         let mut set = 0;
@@ -89,6 +89,6 @@ impl Damaged {
                 break;
             }
         }
-        self.put(words, set, (n, m), chance, fault)
+        self.put(words, set, (n, m), chance, faulty)
     }
 }

@@ -1,5 +1,6 @@
 //! Runs of which each answer is known: document 01's extras, and those that show what Papers 2, 3, 4 and 6 say.
 use crate::beside::{both, differ, made, Agreed};
+use crate::faults::Faulty;
 use crate::model::{Answer, Compared, Frame, Model, Outcome, Release, Step, Tag, MAX_TS, RELEASES};
 use crate::words;
 use hatukeno::Board;
@@ -57,7 +58,7 @@ impl Known {
     }
 
     fn expect_answer(&mut self, step: Step, answer: Answer) -> Agreed {
-        let got = both(&mut self.board, &mut self.model, step, 0)?;
+        let got = both(&mut self.board, &mut self.model, step, Faulty::NOT)?;
         if got != answer {
             return differ(&[format!("{step:?} answered {got:?}, not {answer:?}")]);
         }
@@ -69,7 +70,7 @@ impl Known {
         let outcome = Ok(outcome);
         self.expect(Step::Deliver(c, k), Ok(Outcome::Handed))?;
         self.expect_answer(Step::Deliver(c, k), Answer { outcome, compared })?;
-        if words::read(self.board.words(), 0).consoles[&c].alike != is_on {
+        if words::read(self.board.words()).consoles[&c].alike != is_on {
             return differ(&[format!("the mark of console {c} is wrong after node {k}'s reply")]);
         }
         Ok(())
@@ -223,7 +224,7 @@ fn other_cells() -> Agreed {
     expected.cells.insert((0, 3), Frame::Ask);
     expected.cells.insert((0, 4), Frame::Reply((1, 1), 7));
     if *board.board.words() != words::write(&expected) {
-        let left = words::read(board.board.words(), 0);
+        let left = words::read(board.board.words());
         return differ(&[format!("after an early finish the board is {left:?}")]);
     }
     board.expect(Step::Deliver(0, 3), Ok(Outcome::Handed))?;
@@ -275,7 +276,7 @@ fn puts_withdrawn() -> Agreed {
             expected.cells.remove(&(1, k));
             board.expect(Step::Deliver(1, k), Ok(Outcome::Discarded))?;
             if *board.board.words() != words::write(&expected) {
-                let left = words::read(board.board.words(), 0);
+                let left = words::read(board.board.words());
                 return differ(&[format!("after a withdrawn put the board is {left:?}")]);
             }
         }

@@ -1,7 +1,7 @@
 //! Runs from late timestamps: beside the last one, where question 10 refuses, and beside those at which a number of 32 bits
 //! for a tag would wrap (Paper 5).
 use crate::beside::{both, listed, made, Agreed};
-use crate::faults::{Fault, PUT_IN_32_BITS, REPLY_IN_32_BITS};
+use crate::faults::{put_in_32_bits, reply_in_32_bits, Faulty, Taken};
 use crate::model::{Answer, Compared, Model, Outcome, Release, Step, MAX_TS};
 use crate::runs::LENGTH;
 use crate::words;
@@ -24,7 +24,7 @@ pub struct Late {
 impl Late {
     /// A run from a board whose nodes hold tags with one of the three timestamps up to the highest, one by one and as a list.
     /// Demand 3 does not speak of such a run.
-    pub fn run(&mut self, n: u32, m: u32, release: Release, highest: u32, chance: &mut Chance, fault: Fault) -> Agreed {
+    pub fn run(&mut self, n: u32, m: u32, release: Release, highest: u32, chance: &mut Chance, faulty: Faulty) -> Agreed {
         let (_, mut model) = made(n, m, release);
         for node in model.nodes.values_mut().take(n as usize) {
             node.tag = (u64::from(highest - chance.below(3)), u64::from(chance.below(m)));
@@ -36,7 +36,7 @@ impl Late {
         for _ in 0..LENGTH {
             let step = chance.step(n, m, false);
             self.add_wrapped(&model, step);
-            answers.push(both(&mut board, &mut model, step, fault)?);
+            answers.push(both(&mut board, &mut model, step, faulty)?);
             list.push(step.into());
         }
         listed(first, &list, &answers, &board)?;
@@ -45,10 +45,10 @@ impl Late {
     }
 
     fn add_wrapped(&mut self, model: &Model, step: Step) {
-        let right = model.step(step, 0);
-        let goes_otherwise = |by: Fault| u64::from(model.step(step, by) != right);
-        self.puts_wrapped += goes_otherwise(PUT_IN_32_BITS);
-        self.replies_wrapped += goes_otherwise(REPLY_IN_32_BITS);
+        let right = model.step(step);
+        let goes_otherwise = |by: fn(&mut Taken)| u64::from(Taken::changed(model, step, by) != right);
+        self.puts_wrapped += goes_otherwise(put_in_32_bits);
+        self.replies_wrapped += goes_otherwise(reply_in_32_bits);
     }
 
     fn add(&mut self, Answer { outcome, compared }: Answer) {

@@ -1,6 +1,6 @@
 //! The library beside the model.
 use crate::beside::Agreed;
-use crate::faults::Fault;
+use crate::faults::Faulty;
 use crate::known;
 use crate::late::WRAPS_AT;
 use crate::model::{MAX_TS, RELEASES};
@@ -15,13 +15,13 @@ pub struct Amount {
     pub damaged: u64,
 }
 
-pub fn compare(amount: Amount, seed: u64, fault: Fault) -> Agreed<Seen> {
+pub fn compare(amount: Amount, seed: u64, faulty: Faulty) -> Agreed<Seen> {
     for (n, m) in [(0, 0), (0, 9), (5, 8), (6, 1), (5, 9), (5, 0), (u32::MAX, 1), (1, u32::MAX)] {
         runs::fresh(n, m)?;
-        runs::fresh_in_list(n, m, fault)?;
+        runs::fresh_in_list(n, m, faulty)?;
     }
     // A fault is to be found by the runs by chance.
-    if fault == 0 {
+    if !faulty.is_faulty() {
         known::runs()?;
     }
     let mut chance = Chance(seed);
@@ -29,28 +29,28 @@ pub fn compare(amount: Amount, seed: u64, fault: Fault) -> Agreed<Seen> {
         counts: vec![Default::default(); 40],
         ..Default::default()
     };
-    run(amount.steps, &mut chance, fault, &mut seen)?;
-    run_where_numbers_wrap(seed, fault, &mut seen)?;
+    run(amount.steps, &mut chance, faulty, &mut seen)?;
+    run_where_numbers_wrap(seed, faulty, &mut seen)?;
     for (n, m) in sizes() {
         for release in RELEASES {
-            seen.late.run(n, m, release, MAX_TS as u32, &mut chance, fault)?;
+            seen.late.run(n, m, release, MAX_TS as u32, &mut chance, faulty)?;
         }
-        seen.marks.draw(n, m, &mut chance, fault)?;
-        seen.releases.draw(n, m, &mut chance, fault)?;
-        seen.damaged.sweep(n, m, &mut chance, fault)?;
-        seen.reads.run(n, m, &mut chance, fault)?;
+        seen.marks.draw(n, m, &mut chance, faulty)?;
+        seen.releases.draw(n, m, &mut chance, faulty)?;
+        seen.damaged.sweep(n, m, &mut chance, faulty)?;
+        seen.reads.run(n, m, &mut chance, faulty)?;
     }
     while seen.damaged.ill < amount.damaged {
-        seen.damaged.draw(&mut chance, fault)?;
+        seen.damaged.draw(&mut chance, faulty)?;
     }
     Ok(seen)
 }
 
-fn run(steps: u64, chance: &mut Chance, fault: Fault, seen: &mut Seen) -> Agreed {
+fn run(steps: u64, chance: &mut Chance, faulty: Faulty, seen: &mut Seen) -> Agreed {
     let mut crashes = true;
     while seen.steps < steps {
         for ((n, m), of_size) in sizes().zip(&mut seen.counts) {
-            runs::run(n, m, crashes, chance, fault, of_size)?;
+            runs::run(n, m, crashes, chance, faulty, of_size)?;
             seen.steps += 2 * u64::from(LENGTH);
         }
         crashes = !crashes;
@@ -59,12 +59,12 @@ fn run(steps: u64, chance: &mut Chance, fault: Fault, seen: &mut Seen) -> Agreed
 }
 
 /// Drawn apart, so that what is drawn after these runs is the same as without them.
-fn run_where_numbers_wrap(seed: u64, fault: Fault, seen: &mut Seen) -> Agreed {
+fn run_where_numbers_wrap(seed: u64, faulty: Faulty, seen: &mut Seen) -> Agreed {
     let mut apart = Chance(!seed);
     for (n, m) in sizes() {
         for release in RELEASES {
             let wraps = (1 + apart.below(7)) * WRAPS_AT;
-            seen.late.run(n, m, release, wraps + 1, &mut apart, fault)?;
+            seen.late.run(n, m, release, wraps + 1, &mut apart, faulty)?;
         }
     }
     Ok(())

@@ -2,9 +2,12 @@
 //! model, on the same schedules, and stops at the first difference.
 //!
 //!     compare [--steps N] [--damaged N] [--lines N] [--rack PROGRAM] [--seed S] [--fault F]
+//!     compare --find-faults [--steps N] [--damaged N] [--lines N] [--rack PROGRAM] [--seed S]
+//!     compare --faults
 //!     compare --as-model [--fault F] <SCHEDULE
 //!
-//! The second writes what the model answers to the schedule.
+//! The second does so with each fault put round the model in turn, and stops at the first that is not found; the third prints
+//! the faults with their numbers; the last writes what the model answers to the schedule.
 mod beside;
 mod damaged;
 mod drawing;
@@ -25,7 +28,7 @@ mod words;
 
 use beside::Agreed;
 use common::arguments::{Arguments, RACK};
-use faults::Fault;
+use faults::{Faulty, FAULTS};
 use library::Amount;
 use std::path::PathBuf;
 use std::process::exit;
@@ -35,9 +38,28 @@ struct Options {
     lines: u64,
     seed: u64,
     rack: PathBuf,
-    fault: Fault,
-    as_model: bool,
+    faulty: Faulty,
+    task: Task,
 }
+
+enum Task {
+    Compare,
+    FindFaults,
+    PrintFaults,
+    AsModel,
+}
+
+const NAMES: [&str; 9] = [
+    "--steps",
+    "--damaged",
+    "--lines",
+    "--seed",
+    "--rack",
+    "--fault",
+    "--find-faults",
+    "--faults",
+    "--as-model",
+];
 
 fn options() -> Options {
     let mut options = Options {
@@ -48,11 +70,10 @@ fn options() -> Options {
         lines: 200_000,
         seed: 1,
         rack: PathBuf::from(RACK),
-        fault: 0,
-        as_model: false,
+        faulty: Faulty::NOT,
+        task: Task::Compare,
     };
-    let names = &["--steps", "--damaged", "--lines", "--seed", "--rack", "--fault", "--as-model"];
-    let mut words = Arguments::new("compare", names);
+    let mut words = Arguments::new("compare", &NAMES);
     while let Some(name) = words.next_name() {
         match name {
             "--steps" => options.amount.steps = words.number(u64::MAX),
@@ -60,45 +81,73 @@ fn options() -> Options {
             "--lines" => options.lines = words.number(u64::MAX),
             "--seed" => options.seed = words.number(u64::MAX),
             "--rack" => options.rack = PathBuf::from(words.word()),
-            "--fault" => options.fault = words.number(u64::from(faults::LAST)) as Fault,
-            _ => options.as_model = true,
+            "--fault" => options.faulty = Faulty::numbered(words.number(FAULTS.len() as u64)),
+            "--find-faults" => options.task = Task::FindFaults,
+            "--faults" => options.task = Task::PrintFaults,
+            _ => options.task = Task::AsModel,
         }
     }
     options
 }
 
 /// A fault of lines is looked for in schedules alone, and any other in the library's steps alone.
-fn compare(options: &Options) -> Agreed {
-    let Options { seed, fault, .. } = *options;
-    let by_lines = faults::is_of_lines(fault);
-    if !by_lines {
-        let seen = library::compare(options.amount, seed, fault)?;
-        seen.print(seed);
-        if fault == 0 {
+fn compare(options: &Options, faulty: Faulty, prints: bool) -> Agreed {
+    let seed = options.seed;
+    let by_lines = options.lines > 0 && (faulty.is_of_lines() || !faulty.is_faulty());
+    if by_lines && !options.rack.is_file() {
+        eprintln!("compare: there is no program {}; rt check rack writes it", options.rack.display());
+        exit(2);
+    }
+    if !faulty.is_of_lines() {
+        let seen = library::compare(options.amount, seed, faulty)?;
+        if prints {
+            seen.print(seed);
+        }
+        if !faulty.is_faulty() {
             seen.hold()?;
         }
     }
-    if options.lines > 0 && (fault == 0 || by_lines) {
-        schedules::compare(&options.rack, options.lines, seed, fault)?.print(seed);
+    if by_lines {
+        let counts = schedules::compare(&options.rack, options.lines, seed, faulty)?;
+        if prints {
+            counts.print(seed);
+        }
     }
     Ok(())
 }
 
+fn find_faults(options: &Options) {
+    for (number, fault) in (1..).zip(FAULTS) {
+        if compare(options, Faulty(Some(fault)), false).is_ok() {
+            println!("fault {number}, {}, was not found", fault.name);
+            exit(1);
+        }
+    }
+    println!("{} faults, each found", FAULTS.len());
+}
+
+fn print_faults() {
+    for (number, fault) in (1..).zip(FAULTS) {
+        println!("{number} {}", fault.name);
+    }
+}
+
 fn main() {
     let options = options();
-    if options.as_model {
-        if let Err(error) = schedules::answer(options.fault) {
-            eprintln!("compare: {error}");
-            exit(2);
+    match options.task {
+        Task::Compare => {
+            if let Err(difference) = compare(&options, options.faulty, true) {
+                println!("{}", difference.0);
+                exit(1);
+            }
         }
-        return;
-    }
-    if options.lines > 0 && !options.rack.is_file() {
-        eprintln!("compare: there is no program {}; rt check rack writes it", options.rack.display());
-        exit(2);
-    }
-    if let Err(difference) = compare(&options) {
-        println!("{}", difference.0);
-        exit(1);
+        Task::FindFaults => find_faults(&options),
+        Task::PrintFaults => print_faults(),
+        Task::AsModel => {
+            if let Err(error) = schedules::answer(options.faulty) {
+                eprintln!("compare: {error}");
+                exit(2);
+            }
+        }
     }
 }

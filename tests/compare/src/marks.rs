@@ -2,9 +2,9 @@
 //! beside each the same board with the mark put right.
 use crate::beside::{both, differ, listed, put, Agreed};
 use crate::damaged::some_board;
-use crate::faults::Fault;
+use crate::faults::Faulty;
 use crate::model::{Answer, Console, State, Step};
-use crate::words::{self, mark, Words};
+use crate::words::{mark, Words};
 use common::Chance;
 use hatukeno::{Board, Refusal};
 
@@ -69,7 +69,7 @@ pub struct Marks {
 
 impl Marks {
     /// Draws boards of this size until there are enough for each place that there is on it.
-    pub fn draw(&mut self, n: u32, m: u32, chance: &mut Chance, fault: Fault) -> Agreed {
+    pub fn draw(&mut self, n: u32, m: u32, chance: &mut Chance, faulty: Faulty) -> Agreed {
         let mut here = Marks::default();
         for _ in 0..DRAWN {
             if here.has_all(n) {
@@ -77,7 +77,7 @@ impl Marks {
             }
             let words = some_board(n, m, STEPS, chance);
             for c in 0..m {
-                here.try_console(words, c, chance, fault)?;
+                here.try_console(words, c, chance, faulty)?;
             }
         }
         if !here.has_all(n) {
@@ -95,8 +95,8 @@ impl Marks {
     }
 
     /// Tries the board with this console's mark on and with it off, unless there are enough such boards.
-    fn try_console(&mut self, words: Words, c: u32, chance: &mut Chance, fault: Fault) -> Agreed {
-        let here = place(&words::read(&words, fault).consoles[&c]);
+    fn try_console(&mut self, words: Words, c: u32, chance: &mut Chance, faulty: Faulty) -> Agreed {
+        let here = place(&faulty.read(&words).consoles[&c]);
         let tried = &mut self.tried[here as usize];
         if *tried == OF_EACH {
             return Ok(());
@@ -111,7 +111,7 @@ impl Marks {
                 Place::OneAnswered => number != 0,
                 Place::TwoOn | Place::TwoOff => true,
             };
-            try_board(words, c, is_good, chance, fault)?;
+            try_board(words, c, is_good, chance, faulty)?;
         }
         Ok(())
     }
@@ -141,8 +141,8 @@ impl Marks {
 
 /// Every kind of step on the board, each from there, and all of them as one list: refused with 1 if the board is not good, and
 /// else not, and as the model answers.
-fn try_board(words: Words, c: u32, is_good: bool, chance: &mut Chance, fault: Fault) -> Agreed {
-    let model = words::read(&words, fault);
+fn try_board(words: Words, c: u32, is_good: bool, chance: &mut Chance, faulty: Faulty) -> Agreed {
+    let model = faulty.read(&words);
     let k = chance.below(model.n);
     let steps = [
         Step::BeginRead(c),
@@ -161,12 +161,12 @@ fn try_board(words: Words, c: u32, is_good: bool, chance: &mut Chance, fault: Fa
                 format!("the board is {model:?}"),
             ]);
         }
-        both(&mut board.clone(), &mut model.clone(), step, fault)?;
+        both(&mut board.clone(), &mut model.clone(), step, faulty)?;
     }
     let (mut last, mut next) = (board.clone(), model);
     let answers: Vec<Answer> = steps
         .into_iter()
-        .map(|step| both(&mut last, &mut next, step, fault))
+        .map(|step| both(&mut last, &mut next, step, faulty))
         .collect::<Agreed<_>>()?;
     listed(board, &steps.map(Into::into), &answers, &last)
 }

@@ -7,7 +7,7 @@
 //! In both the consoles begin in turn, each some time after it is idle, frames are delivered in a drawn order, and nothing goes
 //! down. Both releases have the same begins in the same order, and a run goes on until all is finished and delivered.
 use crate::beside::{both, differ, made, Agreed};
-use crate::faults::Fault;
+use crate::faults::Faulty;
 use crate::model::{Kind, Model, Release, State, Step};
 use crate::rules::{Counts, Run};
 use common::Chance;
@@ -55,9 +55,9 @@ fn some_delivery(board: &Model, chance: &mut Chance) -> Option<Step> {
     Some(Step::Deliver(*c, *k))
 }
 
-fn run(n: u32, m: u32, release: Release, load: Load, begins: &[Begin], chance: &mut Chance, fault: Fault) -> Agreed<Counts> {
+fn run(n: u32, m: u32, release: Release, load: Load, begins: &[Begin], chance: &mut Chance, faulty: Faulty) -> Agreed<Counts> {
     let (mut board, mut model) = made(n, m, release);
-    let (mut held, mut counts) = (Run::fresh(n, fault), Counts::default());
+    let (mut held, mut counts) = (Run::fresh(faulty.rules(n)), Counts::default());
     let mut begins = begins.iter().peekable();
     while begins.peek().is_some() || !model.cells.is_empty() {
         let step = match begins.next_if(|begin| load.allows(**begin, &model) && chance.one_in(4)) {
@@ -69,7 +69,7 @@ fn run(n: u32, m: u32, release: Release, load: Load, begins: &[Begin], chance: &
             continue;
         };
         let before = board.clone();
-        let answer = both(&mut board, &mut model, step, fault)?;
+        let answer = both(&mut board, &mut model, step, faulty)?;
         held.take(step, answer, &before, &board, &mut counts)?;
     }
     Ok(counts)
@@ -89,10 +89,10 @@ pub struct Reads {
 }
 
 impl Reads {
-    pub fn run(&mut self, n: u32, m: u32, chance: &mut Chance, fault: Fault) -> Agreed {
+    pub fn run(&mut self, n: u32, m: u32, chance: &mut Chance, faulty: Faulty) -> Agreed {
         let mut under_both = |load: Load| -> Agreed<[Counts; 2]> {
             let (begins, seed) = (load.begins(m, chance), chance.next());
-            let under = |release| run(n, m, release, load, &begins, &mut Chance(seed), fault);
+            let under = |release| run(n, m, release, load, &begins, &mut Chance(seed), faulty);
             Ok([under(Release::One)?, under(Release::Two)?])
         };
         let (quiet, busy) = (under_both(Load::Quiet)?, under_both(Load::Busy)?);

@@ -3,8 +3,7 @@
 //! under both releases; an early finish (Paper 4) is held to half the bound besides, since it takes one phase. And what the runs
 //! show, counted: finishes, node ups, how replies compared and what they did to the mark, and frames that were withdrawn.
 use crate::beside::{differ, Agreed};
-use crate::faults::{Fault, BOUND_ONE_LESS, EARLY_BOUND_ONE_LESS, MAJORITY_ONE_LESS, READS_HIGHER};
-use crate::model::{Answer, Compared, Frame, Outcome, Step, Tag};
+use crate::model::{Answer, Compared, Frame, Kind, Outcome, Step, Tag};
 use crate::words::{mark, read};
 use hatukeno::{Board, Refusal};
 use std::collections::{BTreeMap, BTreeSet};
@@ -64,7 +63,7 @@ pub struct Counts {
 impl Counts {
     /// A discarded delivery of this console and node. Of asks and puts it is those of down consoles that are discarded.
     fn add_discarded(&mut self, c: u32, k: u32, from: &Board) {
-        let from = read(from.words(), 0);
+        let from = read(from.words());
         let (frame, node) = (from.cells[&(c, k)], &from.nodes[&k]);
         match frame {
             Frame::Ask => self.asks_withdrawn += 1,
@@ -100,27 +99,51 @@ impl Counts {
     }
 }
 
+/// The three rules for n nodes.
+pub struct Rules {
+    pub n: u32,
+    /// Progress: so many machines must be up.
+    pub up: u32,
+    /// The most accepted deliveries of an operation, and of a read that finishes early.
+    pub deliveries: u64,
+    pub early_deliveries: u64,
+    /// Freshness: whether an operation of this kind must have a higher tag than those finished before it, or else one no lower.
+    pub rises: fn(Kind) -> bool,
+}
+
+impl Rules {
+    pub fn of(n: u32) -> Rules {
+        let majority = n / 2 + 1;
+        let one_phase = u64::from(n + majority);
+        Rules {
+            n,
+            up: majority,
+            deliveries: 2 * one_phase,
+            early_deliveries: one_phase,
+            rises: |kind| kind == Kind::Write,
+        }
+    }
+}
+
 /// An open operation: the accepted deliveries since its begin, and the highest final tag before it.
 struct Open {
-    wrote: bool,
+    kind: Kind,
     taken: u64,
     before: Option<Tag>,
 }
 
 /// A run so far: which machines are down, the open operation of each console that has one, and the highest final tag.
 pub struct Run {
-    n: u32,
-    fault: Fault,
+    rules: Rules,
     down: BTreeSet<u32>,
     open: BTreeMap<u32, Open>,
     highest: Option<Tag>,
 }
 
 impl Run {
-    pub fn fresh(n: u32, fault: Fault) -> Run {
+    pub fn fresh(rules: Rules) -> Run {
         Run {
-            n,
-            fault,
+            rules,
             down: BTreeSet::new(),
             open: BTreeMap::new(),
             highest: None,
@@ -142,8 +165,8 @@ impl Run {
 
     fn accept(&mut self, step: Step, answer: Answer, from: &Board, to: &Board, counts: &mut Counts) -> Agreed {
         match step {
-            Step::BeginRead(c) => self.begin(c, false),
-            Step::BeginWrite(c, _) => self.begin(c, true),
+            Step::BeginRead(c) => self.begin(c, Kind::Read),
+            Step::BeginWrite(c, _) => self.begin(c, Kind::Write),
             Step::ConsoleDown(c) => {
                 self.open.remove(&c);
             }
@@ -161,47 +184,45 @@ impl Run {
         self.hold_progress(to)
     }
 
-    fn begin(&mut self, c: u32, wrote: bool) {
+    fn begin(&mut self, c: u32, kind: Kind) {
         let before = self.highest;
-        self.open.insert(c, Open { wrote, taken: 0, before });
+        self.open.insert(c, Open { kind, taken: 0, before });
     }
 
     fn deliver(&mut self, c: u32, answer: Answer, counts: &mut Counts) -> Agreed {
-        let one_phase = u64::from(self.n + self.majority());
         let Some(operation) = self.open.get_mut(&c) else {
             return Ok(());
         };
         operation.taken += 1;
-        let (taken, wrote) = (operation.taken, operation.wrote);
-        self.hold_bound(taken, 2 * one_phase - u64::from(self.fault == BOUND_ONE_LESS))?;
-        if let Ok(Outcome::Finished(tag, _)) = answer.outcome {
-            counts.finished.add(taken);
-            if !wrote {
-                counts.reads.add(taken);
-            }
-            if answer.compared != Compared::None {
-                counts.early.add(taken);
-                self.hold_bound(taken, one_phase - u64::from(self.fault == EARLY_BOUND_ONE_LESS))?;
-            }
-            self.finish(c, tag)?;
+        let (taken, kind) = (operation.taken, operation.kind);
+        self.hold_bound(taken, self.rules.deliveries)?;
+        let Ok(Outcome::Finished(tag, _)) = answer.outcome else {
+            return Ok(());
+        };
+        counts.finished.add(taken);
+        if kind == Kind::Read {
+            counts.reads.add(taken);
         }
-        Ok(())
+        if answer.compared != Compared::None {
+            counts.early.add(taken);
+            self.hold_bound(taken, self.rules.early_deliveries)?;
+        }
+        self.finish(c, tag)
     }
 
     fn hold_bound(&self, taken: u64, most: u64) -> Agreed {
         if taken > most {
-            let n = self.n;
+            let n = self.rules.n;
             return differ(&[format!("n = {n}: an operation took {taken} deliveries, more than {most}")]);
         }
         Ok(())
     }
 
     fn finish(&mut self, c: u32, tag: Tag) -> Agreed {
-        let Some(Open { wrote, before, .. }) = self.open.remove(&c) else {
+        let Some(Open { kind, before, .. }) = self.open.remove(&c) else {
             return Ok(());
         };
-        let higher = wrote || self.fault == READS_HIGHER;
-        if Some(tag) < before || higher && Some(tag) == before {
+        if Some(tag) < before || (self.rules.rises)(kind) && Some(tag) == before {
             return differ(&[format!("console {c} finished with tag {tag:?} after {before:?} was finished")]);
         }
         self.highest = self.highest.max(Some(tag));
@@ -209,14 +230,14 @@ impl Run {
     }
 
     fn hold_progress(&self, board: &Board) -> Agreed {
-        let up = self.n - self.down.len() as u32;
-        if up + u32::from(self.fault == MAJORITY_ONE_LESS) < self.majority() {
+        let up = self.rules.n - self.down.len() as u32;
+        if up < self.rules.up {
             return Ok(());
         }
         match self.stuck(board).next() {
             Some(c) => differ(&[
                 format!("console {c} has an operation open and no frame that can be delivered"),
-                format!("of {} machines those that are down are {:?}", self.n, self.down),
+                format!("of {} machines those that are down are {:?}", self.rules.n, self.down),
                 format!("the words of the board are {:?}", board.words()),
             ]),
             None => Ok(()),
@@ -229,11 +250,7 @@ impl Run {
     }
 
     fn has_frame(&self, c: u32, board: &Board) -> bool {
-        (0..self.n).any(|k| board.clone().deliver(c, k).is_ok())
-    }
-
-    fn majority(&self) -> u32 {
-        self.n / 2 + 1
+        (0..self.rules.n).any(|k| board.clone().deliver(c, k).is_ok())
     }
 }
 

@@ -1,9 +1,9 @@
 //! Puts schedules to the program and to the model, and stops at the first difference.
 use crate::beside::{differ, Agreed};
 use crate::drawing::{edges, Drawing};
-use crate::faults::Fault;
+use crate::faults::Faulty;
 use crate::model::Outcome;
-use crate::schedule::{answers, lines, written, Answer};
+use crate::schedule::{lines, written, Answer};
 use common::Chance;
 use std::collections::BTreeMap;
 use std::io::{self, Read, Write};
@@ -22,10 +22,10 @@ const ROUNDS: u64 = 32;
 const MANY: u64 = 70_000;
 
 /// Reads standard input as the program does and writes what the model answers.
-pub fn answer(fault: Fault) -> io::Result<()> {
+pub fn answer(faulty: Faulty) -> io::Result<()> {
     let mut input = Vec::new();
     io::stdin().read_to_end(&mut input)?;
-    io::stdout().write_all(&written(&answers(&input, fault)))
+    io::stdout().write_all(&written(&faulty.answers(&input)))
 }
 
 /// How many lines there were, by their answers.
@@ -61,11 +61,11 @@ impl Counts {
 }
 
 /// The edges, then by chance until so many lines are answered.
-pub fn compare(rack: &Path, wanted: u64, seed: u64, fault: Fault) -> Agreed<Counts> {
+pub fn compare(rack: &Path, wanted: u64, seed: u64, faulty: Faulty) -> Agreed<Counts> {
     let mut drawn = Drawn {
         rack,
         seed,
-        fault,
+        faulty,
         chance: Chance(seed),
         counts: Counts::default(),
     };
@@ -86,7 +86,7 @@ pub fn compare(rack: &Path, wanted: u64, seed: u64, fault: Fault) -> Agreed<Coun
 struct Drawn<'a> {
     rack: &'a Path,
     seed: u64,
-    fault: Fault,
+    faulty: Faulty,
     chance: Chance,
     counts: Counts,
 }
@@ -117,7 +117,7 @@ impl Drawn<'_> {
 
     /// Puts the schedule to the program and to the model.
     fn put(&mut self, schedule: &[u8]) -> Agreed {
-        let expected = answers(schedule, self.fault);
+        let expected = self.faulty.answers(schedule);
         let pieces = pieces(schedule.len(), &mut self.chance);
         let (output, status) = run(self.rack, schedule, &pieces).unwrap_or_else(|error| {
             eprintln!("compare: {} cannot be run: {error}", self.rack.display());
@@ -196,7 +196,7 @@ fn difference(schedule: &[u8], output: &[u8], expected: &[u8], seed: u64, status
         format!("seed {seed}: a difference at line {number}; the program ended with {status}"),
         format!("the program wrote {}", wrote(a)),
         format!("the model wrote {}", wrote(b)),
-        match lines(schedule, 0).get(number - 1) {
+        match lines(schedule).nth(number - 1) {
             Some(line) => format!("the line is {}, its end {}", shown(line.text), shown(line.end)),
             None => "there is no such line".to_string(),
         },

@@ -1,5 +1,4 @@
 //! The model's board in the library's words, and back.
-use crate::faults::{Fault, THREE_IS_TWO};
 use crate::model::{Console, Frame, Model, Node, Release, State, Tag};
 pub use common::words::*;
 use hatukeno::BOARD_WORDS;
@@ -8,7 +7,7 @@ fn tag(w: &[u32]) -> Tag {
     (u64::from(w[0]), u64::from(w[1]))
 }
 
-pub fn read(w: &Words, fault: Fault) -> Model {
+pub fn read(w: &Words) -> Model {
     let node = |w: &[u32]| Node {
         up: w[0] != 0,
         tag: tag(&w[1..]),
@@ -34,7 +33,6 @@ pub fn read(w: &Words, fault: Fault) -> Model {
         m: w[1],
         release: match w[RELEASE] {
             2 => Release::Two,
-            3.. if fault == THREE_IS_TWO => Release::Two,
             _ => Release::One,
         },
         nodes: (0..).zip(w[NODES..CONSOLES].chunks(NODE).map(node)).collect(),
