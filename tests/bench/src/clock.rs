@@ -1,4 +1,5 @@
-//! Time that this thread, or processes that it has waited for, have spent on a processor: what else the machine does is not in it.
+//! Time that this thread, or processes that it has waited for, have spent on a processor: what else the machine does is
+//! not in it.
 use std::sync::OnceLock;
 
 #[repr(C)]

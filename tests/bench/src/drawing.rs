@@ -67,8 +67,8 @@ fn pairs() -> impl Iterator<Item = (u32, u32)> + Clone {
     (0..40).map(|i| (i / 5, i % 5))
 }
 
-/// Whether the cell's frame is taken. A reply or an ack always is, and so is every frame of a console that is down; another ask or
-/// put only by a node that is up.
+/// Whether the cell's frame is taken. A reply or an ack always is, and so is every frame of a console that is down;
+/// another ask or put only by a node that is up.
 fn goes(w: &Words, c: u32, k: u32) -> bool {
     match w[cell(c, k)] {
         0 => false,

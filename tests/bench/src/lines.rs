@@ -43,8 +43,8 @@ impl Schedule {
         schedule
     }
 
-    /// A run from a fresh board, up to that many lines, or fewer if no operation can finish any more. In a long run no console goes
-    /// down, since none comes back.
+    /// A run from a fresh board, up to that many lines, or fewer if no operation can finish any more. In a long run no
+    /// console goes down, since none comes back.
     fn add_run(&mut self, chance: &mut Chance, is_long: bool, to: usize) {
         let (n, m) = if is_long {
             (5, 8)

@@ -1,5 +1,5 @@
-//! Three files of the same calls, which tests/both-libraries writes: the proved library as it is, a copy of it, and the library with
-//! tags compared by order, as before Paper 5. They are loaded and called alike.
+//! Three files of the same calls, which tests/both-libraries writes: the proved library as it is, a copy of it, and the
+//! library with tags compared by order, as before Paper 5. They are loaded and called alike.
 use crate::side::Side;
 use common::{Step, Words};
 use hatukeno::{Refusal, BOARD_WORDS};

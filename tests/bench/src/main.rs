@@ -1,11 +1,13 @@
-//! Times the proved library beside plain Rust, which asks question 1 at every step or never, and beside itself with tags compared as
-//! before Paper 5, on the same steps; then the program that runs schedules beside plain Rust and the model, on the same schedule.
+//! Times the proved library beside plain Rust, which asks question 1 at every step or never, and beside itself with
+//! tags compared as before Paper 5, on the same steps; then the program that runs schedules beside plain Rust and the
+//! model, on the same schedule.
 //!
 //!     bench [--seed S] [--rounds N] [--lines N] [--rack PROGRAM]
 //!     bench --as-plain <SCHEDULE
 //!     bench --as-unasked <SCHEDULE
 //!
-//! With --rounds 0 no steps are timed, with --lines 0 no schedule. The other two write plain Rust's answers to the schedule.
+//! With --rounds 0 no steps are timed, with --lines 0 no schedule. The other two write plain Rust's answers to the
+//! schedule.
 mod clock;
 mod drawing;
 mod lines;

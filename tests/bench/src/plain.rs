@@ -1,5 +1,5 @@
-//! The rules of document 01 and Papers 2, 3, 4 and 6 in plain Rust, written to be fast: one struct by value, changed in place.
-//! With CHECKED every step asks question 1 first, without it none does; all else is the same code.
+//! The rules of document 01 and Papers 2, 3, 4 and 6 in plain Rust, written to be fast: one struct by value, changed in
+//! place. With CHECKED every step asks question 1 first, without it none does; all else is the same code.
 use common::words::{Words, CELL, CELLS, CONSOLE, CONSOLES, NODE, NODES, RELEASE};
 use common::{Kind, State};
 use hatukeno::{Answer, Compared, Outcome, Refusal, Release, Tag, BOARD_WORDS};

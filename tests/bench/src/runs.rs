@@ -1,4 +1,5 @@
-//! Runs by chance and damaged boards that all sides are seen to agree on; what is timed is drawn from among their steps.
+//! Runs by chance and damaged boards that all sides are seen to agree on; what is timed is drawn from among their
+//! steps.
 use crate::drawing::{goes_on, likely_step};
 use crate::loaded::{Before, Now};
 use crate::side::{Answer, Plain, Side, Unasked};
@@ -143,7 +144,8 @@ pub fn made_run(release: Release, chance: &mut Chance, rows: &mut [Row]) -> Run 
     Run { n, m, steps, early }
 }
 
-/// Runs under release 2, of which nothing is timed: how many steps all sides agree on, and how many of them were early finishes.
+/// Runs under release 2, of which nothing is timed: how many steps all sides agree on, and how many of them were early
+/// finishes.
 pub fn agree_under_two(chance: &mut Chance) -> (usize, usize) {
     let (mut steps, mut early) = (0, 0);
     while steps < STEPS {
@@ -158,8 +160,8 @@ pub fn agree_under_two(chance: &mut Chance) -> (usize, usize) {
     (steps, early)
 }
 
-/// Question 1 is part of what is timed, but no run gets a no to it: here it is compared on boards with a word out of place.
-/// How many of them were not well formed.
+/// Question 1 is part of what is timed, but no run gets a no to it: here it is compared on boards with a word out of
+/// place. How many of them were not well formed.
 pub fn damaged(chance: &mut Chance, rows: &[Row]) -> usize {
     let mut refused = 0;
     for i in 0..DAMAGED {

@@ -89,8 +89,8 @@ fn time_runs(runs: &[Run], rounds: usize) {
     }
 }
 
-/// The library beside itself with tags compared as before Paper 5, and beside the same once more, whose ratio says how much of the
-/// other is chance: for each kind of step, and for whole runs.
+/// The library beside itself with tags compared as before Paper 5, and beside the same once more, whose ratio says how
+/// much of the other is chance: for each kind of step, and for whole runs.
 fn time_before(rows: &[Row], runs: &[Run], rounds: usize) {
     println!();
     println!("| ns per step | tags by number | by order, as before | by number / by order | by number / the same once more |");
@@ -107,7 +107,8 @@ fn time_before(rows: &[Row], runs: &[Run], rounds: usize) {
     print("whole runs", medians(rounds, sides));
 }
 
-/// What comparing tags takes of a delivery, by the two comparisons in plain Rust; the deliveries are timed again, in turn with it.
+/// What comparing tags takes of a delivery, by the two comparisons in plain Rust; the deliveries are timed again, in
+/// turn with it.
 fn time_tags(deliveries: &[(Words, Step)], rounds: usize) {
     let pairs: Vec<_> = deliveries.iter().filter_map(|(words, step)| tags::pair(words, *step)).collect();
     let sides: [&dyn Fn() -> f64; 4] = [

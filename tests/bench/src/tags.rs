@@ -1,5 +1,5 @@
-//! What comparing tags takes of a delivery: by number, as the library does, and by order, as it did before Paper 5. Both stand
-//! here in plain Rust.
+//! What comparing tags takes of a delivery: by number, as the library does, and by order, as it did before Paper 5.
+//! Both stand here in plain Rust.
 use crate::clock;
 use crate::drawing::is_dead;
 use common::words::{self, Words};
@@ -30,16 +30,16 @@ pub fn by_order(a: Tag, b: Tag) -> bool {
     a.console > b.console
 }
 
-/// Two tags that a delivery compares, and whether it does so for a reply: then also the other way round, if the first is not
-/// greater.
+/// Two tags that a delivery compares, and whether it does so for a reply: then also the other way round, if the first
+/// is not greater.
 pub struct Pair {
     tag: Tag,
     with: Tag,
     is_reply: bool,
 }
 
-/// The tags that an accepted step compares: those of a put that is handed on and of its node, or those of a reply that is taken in
-/// and of best.
+/// The tags that an accepted step compares: those of a put that is handed on and of its node, or those of a reply that
+/// is taken in and of best.
 pub fn pair(w: &Words, step: Step) -> Option<Pair> {
     let Step::Deliver(c, k) = step else { return None };
     let tag = |at: usize| Tag {

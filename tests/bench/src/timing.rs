@@ -6,8 +6,8 @@ use common::{Step, Words};
 use hatukeno::{Board, BOARD_WORDS};
 use std::hint::black_box;
 
-/// The median of each side's times. The sides take turns in each round, and which one is first changes from round to round,
-/// so that none is favoured by what ran before it.
+/// The median of each side's times. The sides take turns in each round, and which one is first changes from round to
+/// round, so that none is favoured by what ran before it.
 pub fn medians<const N: usize>(rounds: usize, sides: [&dyn Fn() -> f64; N]) -> [f64; N] {
     let mut times = [(); N].map(|()| Vec::with_capacity(rounds));
     for round in 0..rounds {

@@ -38,8 +38,9 @@ impl Chance {
         }
     }
 
-    /// Mostly deliveries. With crashes a node is up some three quarters of the time, by three node ups drawn for each node
-    /// down, whether it is up or not. Consoles that are down do not come back, so long runs need some without crashes.
+    /// Mostly deliveries. With crashes a node is up some three quarters of the time, by three node ups drawn for each
+    /// node down, whether it is up or not. Consoles that are down do not come back, so long runs need some without
+    /// crashes.
     pub fn step(&mut self, n: u32, m: u32, crashes: bool) -> Step {
         match if crashes { self.below(1037) } else { 45 + self.below(992) } {
             0..=9 => Step::NodeDown(self.number(n)),

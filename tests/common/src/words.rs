@@ -1,6 +1,6 @@
-//! Where a board's parts stand in the library's words (crates/words/specs/Words.antt): n, m and the release, then four words
-//! for a node (up, ts, console, value), seven for a console (state, wanted, answered, ts, console, value, mark), four for a
-//! cell (frame, ts, console, value).
+//! Where a board's parts stand in the library's words (crates/words/specs/Words.antt): n, m and the release, then four
+//! words for a node (up, ts, console, value), seven for a console (state, wanted, answered, ts, console, value, mark),
+//! four for a cell (frame, ts, console, value).
 use hatukeno::BOARD_WORDS;
 
 pub type Words = [u32; BOARD_WORDS];

@@ -95,7 +95,8 @@ pub fn both(board: &mut Board, model: &mut Model, step: Step, faulty: Faulty) ->
     Ok(expected)
 }
 
-/// Puts the list to a board: the answers must be the model's, and the last board the one that the steps left one by one.
+/// Puts the list to a board: the answers must be the model's, and the last board the one that the steps left one by
+/// one.
 pub fn listed(mut board: Board, list: &[hatukeno::Step], answers: &[Answer], last: &Board) -> Agreed {
     let said = board.run(list);
     let agree = said.len() == answers.len() && said.iter().zip(answers).all(|(a, b)| alike(a, b));

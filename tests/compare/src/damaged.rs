@@ -18,14 +18,15 @@ pub fn some_board(n: u32, m: u32, most: u32, chance: &mut Chance) -> Words {
     *board.words()
 }
 
-/// Numbers on both sides of every edge of well-formedness on a board of n nodes: n and m and what is beside them, releases,
-/// states, frames, small sets and what is beside all n nodes, the last timestamp and what is beside it.
+/// Numbers on both sides of every edge of well-formedness on a board of n nodes: n and m and what is beside them,
+/// releases, states, frames, small sets and what is beside all n nodes, the last timestamp and what is beside it.
 fn edges(n: u32) -> impl Iterator<Item = u32> {
     let far = [2u32.pow(n) - 1, 2u32.pow(n), 255, 256, LAST_TS - 1, LAST_TS, LAST_TS + 1, u32::MAX];
     (0..10).chain(far)
 }
 
-/// How many boards were not well formed, how many of these had one word out of place, and how many were well formed after all.
+/// How many boards were not well formed, how many of these had one word out of place, and how many were well formed
+/// after all.
 #[derive(Default)]
 pub struct Damaged {
     pub ill: u64,

@@ -1,5 +1,5 @@
-//! Deliberate faults, to show that the comparison can fail. Each is a misreading of a sentence of the papers, put round the model:
-//! it changes what the model is given or what it answers.
+//! Deliberate faults, to show that the comparison can fail. Each is a misreading of a sentence of the papers, put round
+//! the model: it changes what the model is given or what it answers.
 mod early;
 mod lines;
 mod rules;

@@ -65,7 +65,8 @@ impl Known {
         Ok(())
     }
 
-    /// The node replies at once and the console takes the reply in: what that says, and whether the mark is on after it.
+    /// The node replies at once and the console takes the reply in: what that says, and whether the mark is on after
+    /// it.
     fn reply(&mut self, c: u32, k: u32, outcome: Outcome, compared: Compared, is_on: bool) -> Agreed {
         let outcome = Ok(outcome);
         self.expect(Step::Deliver(c, k), Ok(Outcome::Handed))?;
@@ -82,8 +83,8 @@ impl Known {
         self.expect(Step::Deliver(c, k), Ok(outcome))
     }
 
-    /// An operation that this step begins goes through by two nodes, a majority, each answering at once; and how their replies
-    /// compare.
+    /// An operation that this step begins goes through by two nodes, a majority, each answering at once; and how their
+    /// replies compare.
     fn finish(&mut self, c: u32, begin: Step, [a, b]: [(u32, Compared); 2], finished: Outcome) -> Agreed {
         self.expect(begin, Ok(Outcome::Done))?;
         self.reply(c, a.0, Outcome::Heard, a.1, true)?;
@@ -92,7 +93,8 @@ impl Known {
         self.ack(c, b.0, finished)
     }
 
-    /// After these steps console 0 asks, and nodes 0 and 1 of three are down. Once node 2 has answered, no frame can be delivered.
+    /// After these steps console 0 asks, and nodes 0 and 1 of three are down. Once node 2 has answered, no frame can be
+    /// delivered.
     fn wait(&mut self, steps: [Step; 3]) -> Agreed {
         for step in steps {
             self.expect(step, Ok(Outcome::Done))?;
@@ -127,7 +129,8 @@ fn node_back() -> Agreed {
     board.reply(0, 1, Outcome::Turned, Compared::Same, false)
 }
 
-/// Paper 2. Of nodes 0 and 1 only node 0 took the write, and a read by these two hears it from there after its down and up.
+/// Paper 2. Of nodes 0 and 1 only node 0 took the write, and a read by these two hears it from there after its down and
+/// up.
 fn disk_intact() -> Agreed {
     let mut board = Known::fresh(3, 2);
     let written = Outcome::Finished((1, 1), 7);
@@ -175,8 +178,8 @@ fn none_compared() -> Agreed {
     board.expect(Step::Deliver(0, 0), Ok(Outcome::Discarded))
 }
 
-/// Paper 4. With three nodes the second of two replies that are alike finishes a read under release 2, and turns it under release
-/// 1; with one node the only reply does.
+/// Paper 4. With three nodes the second of two replies that are alike finishes a read under release 2, and turns it
+/// under release 1; with one node the only reply does.
 fn quiet_reads() -> Agreed {
     for (tag, value, first) in [((0, 0), 0, Compared::Same), ((1, 1), 7, Compared::Higher)] {
         for (release, last) in RELEASES.into_iter().zip([Outcome::Turned, Outcome::Finished(tag, value)]) {
@@ -210,8 +213,8 @@ fn not_early() -> Agreed {
     board.ack(0, 0, Outcome::Finished((1, 0), 7))
 }
 
-/// Paper 4. Of five nodes 0, 1 and 2 finish a read early; the ask to node 3 and the reply of node 4 stay as they are, and come to
-/// nothing.
+/// Paper 4. Of five nodes 0, 1 and 2 finish a read early; the ask to node 3 and the reply of node 4 stay as they are,
+/// and come to nothing.
 fn other_cells() -> Agreed {
     let mut board = Known::holding(5, 2, Release::Two, (1, 1), 7);
     board.expect(Step::BeginRead(0), Ok(Outcome::Done))?;
@@ -242,8 +245,8 @@ fn last_ts_read() -> Agreed {
     board.expect(Step::Deliver(0, 0), Err(10))
 }
 
-/// Paper 6. Of the three asks of a console that goes down one was answered, whose reply is discarded as before; the others are
-/// withdrawn, from node 1 that is up and from node 2 that is down.
+/// Paper 6. Of the three asks of a console that goes down one was answered, whose reply is discarded as before; the
+/// others are withdrawn, from node 1 that is up and from node 2 that is down.
 fn asks_withdrawn() -> Agreed {
     let mut board = Known::fresh(3, 2);
     board.expect(Step::BeginRead(0), Ok(Outcome::Done))?;
@@ -258,8 +261,8 @@ fn asks_withdrawn() -> Agreed {
     Ok(())
 }
 
-/// Paper 6. A write has reached node 0 when its console goes down; its puts to nodes 1 and 2 are withdrawn one by one, and change
-/// nothing else. So is that to node 1 where this node is down.
+/// Paper 6. A write has reached node 0 when its console goes down; its puts to nodes 1 and 2 are withdrawn one by one,
+/// and change nothing else. So is that to node 1 where this node is down.
 fn puts_withdrawn() -> Agreed {
     for node_down in [false, true] {
         let mut board = Known::fresh(3, 2);

@@ -1,5 +1,5 @@
-//! Runs from late timestamps: beside the last one, where question 10 refuses, and beside those at which a number of 32 bits
-//! for a tag would wrap (Paper 5).
+//! Runs from late timestamps: beside the last one, where question 10 refuses, and beside those at which a number of 32
+//! bits for a tag would wrap (Paper 5).
 use crate::beside::{both, listed, made, Agreed};
 use crate::faults::{put_in_32_bits, reply_in_32_bits, Faulty, Taken};
 use crate::model::{Answer, Compared, Model, Outcome, Release, Step, MAX_TS};
@@ -11,8 +11,8 @@ use hatukeno::Board;
 /// At each multiple of this timestamp ts × 8 would wrap to 0, if it were worked in 32 bits.
 pub const WRAPS_AT: u32 = 1 << 29;
 
-/// What such runs show: deliveries refused with 10, early finishes with the last timestamp, of which question 10 is not asked,
-/// and deliveries of a put and of a reply that would go otherwise by a number of 32 bits.
+/// What such runs show: deliveries refused with 10, early finishes with the last timestamp, of which question 10 is not
+/// asked, and deliveries of a put and of a reply that would go otherwise by a number of 32 bits.
 #[derive(Default)]
 pub struct Late {
     pub refused: u64,
@@ -22,8 +22,8 @@ pub struct Late {
 }
 
 impl Late {
-    /// A run from a board whose nodes hold tags with one of the three timestamps up to the highest, one by one and as a list.
-    /// Demand 3 does not speak of such a run.
+    /// A run from a board whose nodes hold tags with one of the three timestamps up to the highest, one by one and as a
+    /// list. Demand 3 does not speak of such a run.
     pub fn run(&mut self, n: u32, m: u32, release: Release, highest: u32, chance: &mut Chance, faulty: Faulty) -> Agreed {
         let (_, mut model) = made(n, m, release);
         for node in model.nodes.values_mut().take(n as usize) {

@@ -1,13 +1,13 @@
-//! Runs the proved library and the model beside each other, on the same steps, then the program that runs schedules and the
-//! model, on the same schedules, and stops at the first difference.
+//! Runs the proved library and the model beside each other, on the same steps, then the program that runs schedules and
+//! the model, on the same schedules, and stops at the first difference.
 //!
 //!     compare [--steps N] [--damaged N] [--lines N] [--rack PROGRAM] [--seed S] [--fault F]
 //!     compare --find-faults [--steps N] [--damaged N] [--lines N] [--rack PROGRAM] [--seed S]
 //!     compare --faults
 //!     compare --as-model [--fault F] <SCHEDULE
 //!
-//! The second does so with each fault put round the model in turn, and stops at the first that is not found; the third prints
-//! the faults with their numbers; the last writes what the model answers to the schedule.
+//! The second does so with each fault put round the model in turn, and stops at the first that is not found; the third
+//! prints the faults with their numbers; the last writes what the model answers to the schedule.
 mod beside;
 mod damaged;
 mod drawing;

@@ -1,5 +1,5 @@
-//! Paper 3's rule for the mark, clause by clause: boards on which one console's mark is wrong and all else is as a run left it, and
-//! beside each the same board with the mark put right.
+//! Paper 3's rule for the mark, clause by clause: boards on which one console's mark is wrong and all else is as a run
+//! left it, and beside each the same board with the mark put right.
 use crate::beside::{both, differ, listed, put, Agreed};
 use crate::damaged::some_board;
 use crate::faults::Faulty;
@@ -8,8 +8,8 @@ use crate::words::{mark, Words};
 use common::Chance;
 use hatukeno::{Board, Refusal};
 
-/// On each size boards are drawn, fewer than STEPS into a run, until OF_EACH are tried for each place; at most DRAWN of them, and
-/// if that does not do it is a difference.
+/// On each size boards are drawn, fewer than STEPS into a run, until OF_EACH are tried for each place; at most DRAWN of
+/// them, and if that does not do it is a difference.
 const STEPS: u32 = 300;
 const OF_EACH: u64 = 10;
 const DRAWN: u32 = 100_000;
@@ -139,8 +139,8 @@ impl Marks {
     }
 }
 
-/// Every kind of step on the board, each from there, and all of them as one list: refused with 1 if the board is not good, and
-/// else not, and as the model answers.
+/// Every kind of step on the board, each from there, and all of them as one list: refused with 1 if the board is not
+/// good, and else not, and as the model answers.
 fn try_board(words: Words, c: u32, is_good: bool, chance: &mut Chance, faulty: Faulty) -> Agreed {
     let model = faulty.read(&words);
     let k = chance.below(model.n);

@@ -82,9 +82,9 @@ impl Console {
         matches!(self.state, State::Telling(_)) && !self.answered.contains(&k)
     }
 
-    /// The node joins the answered set, and best becomes the greater of best and the reply; on equal tags best keeps its value.
-    /// How the reply compared is how its tag stood to the old best. The mark is set by the first answer of asking and cleared
-    /// by any differing tag.
+    /// The node joins the answered set, and best becomes the greater of best and the reply; on equal tags best keeps
+    /// its value. How the reply compared is how its tag stood to the old best. The mark is set by the first answer of
+    /// asking and cleared by any differing tag.
     pub fn take_reply(&mut self, k: u32, tag: Tag, value: u32, compared: Compared) {
         self.alike = self.answered.is_empty() || (self.alike && compared == Compared::Same);
         self.answered.insert(k);
@@ -233,14 +233,15 @@ impl Model {
         is_state_good && self.is_tag_good(x.best, x.value) && (c < self.m || x.state == State::Idle)
     }
 
-    /// A waiting console's answered set names only nodes below n and has fewer than q members; a read's wanted value is 0.
+    /// A waiting console's answered set names only nodes below n and has fewer than q members; a read's wanted value is
+    /// 0.
     fn is_waiting_good(&self, kind: Kind, x: &Console) -> bool {
         x.answered.iter().all(|k| *k < self.n) && x.answered.len() < self.majority() && (kind == Kind::Write || x.wanted == 0)
     }
 }
 
-/// An asking console with nothing answered has best tag (0, 0) and value 0. The mark is off while nothing is answered, on at
-/// exactly one answer of asking.
+/// An asking console with nothing answered has best tag (0, 0) and value 0. The mark is off while nothing is answered,
+/// on at exactly one answer of asking.
 fn is_asking_good(x: &Console) -> bool {
     match x.answered.len() {
         0 => x.best == (0, 0) && x.value == 0 && !x.alike,
@@ -342,7 +343,8 @@ impl Model {
         Answer::plain(Ok(outcome))
     }
 
-    /// The console becomes asking, with nothing answered and best (0, 0), 0. All n of its cells become ask, whatever they held.
+    /// The console becomes asking, with nothing answered and best (0, 0), 0. All n of its cells become ask, whatever
+    /// they held.
     fn begin(&mut self, c: u32, kind: Kind, wanted: u32) -> Outcome {
         let asking = Console::at_rest(State::Asking(kind));
         self.consoles.insert(c, Console { wanted, ..asking });
@@ -401,8 +403,8 @@ impl Model {
         Outcome::Handed
     }
 
-    /// The console with a reply taken in. With fewer than q answers the outcome is heard. At q answers a read finishes from release
-    /// 2 on if all carry the same tag (Paper 4), and otherwise the console becomes telling.
+    /// The console with a reply taken in. With fewer than q answers the outcome is heard. At q answers a read finishes
+    /// from release 2 on if all carry the same tag (Paper 4), and otherwise the console becomes telling.
     pub fn hear_reply(&mut self, c: u32, x: Console) -> Outcome {
         let is_quiet_read = x.state == State::Asking(Kind::Read) && x.alike;
         let answers = x.answered.len();
@@ -416,8 +418,9 @@ impl Model {
         }
     }
 
-    /// The console becomes telling: a read keeps best; a write takes the tag (best ts + 1, own number) and the wanted value as its
-    /// best. The answered set empties, the kind and wanted value stay, and all n cells become put with that tag and value.
+    /// The console becomes telling: a read keeps best; a write takes the tag (best ts + 1, own number) and the wanted
+    /// value as its best. The answered set empties, the kind and wanted value stay, and all n cells become put with
+    /// that tag and value.
     fn turn(&mut self, c: u32) -> Outcome {
         let x = self.consoles.get_mut(&c).expect("question 4 was asked");
         if x.state == State::Asking(Kind::Write) {
@@ -448,8 +451,8 @@ impl Model {
         }
     }
 
-    /// The console becomes idle and its own fields clear; finished with the best tag and value it had. Its other cells keep their
-    /// frames.
+    /// The console becomes idle and its own fields clear; finished with the best tag and value it had. Its other cells
+    /// keep their frames.
     pub fn finish(&mut self, c: u32) -> Outcome {
         let idle = Console::at_rest(State::Idle);
         let x = self.consoles.insert(c, idle).expect("question 4 was asked");

@@ -1,11 +1,12 @@
 //! The accepted deliveries of finished reads under release 1 and 2, on each size, in quiet and in busy runs.
 //!
-//! - Quiet: one begin in eight is a write's, and nothing else is open while a write is. Frames that a finished write left in
-//!   flight, puts among them, may still be there.
+//! - Quiet: one begin in eight is a write's, and nothing else is open while a write is. Frames that a finished write
+//!   left in flight, puts among them, may still be there.
 //! - Busy: one begin in two is a write's, whatever is open.
 //!
-//! In both the consoles begin in turn, each some time after it is idle, frames are delivered in a drawn order, and nothing goes
-//! down. Both releases have the same begins in the same order, and a run goes on until all is finished and delivered.
+//! In both the consoles begin in turn, each some time after it is idle, frames are delivered in a drawn order, and
+//! nothing goes down. Both releases have the same begins in the same order, and a run goes on until all is finished and
+//! delivered.
 use crate::beside::{both, differ, made, Agreed};
 use crate::faults::Faulty;
 use crate::model::{Kind, Model, Release, State, Step};
@@ -116,8 +117,8 @@ impl Reads {
     }
 
     /// Whether all operations finished and the reads are as Paper 4 has them: under release 1 none finishes early;
-    /// under release 2 some of a quiet board's do, and all together take less than under release 1, and some of a busy one's tell,
-    /// if there is more than one node and console.
+    /// under release 2 some of a quiet board's do, and all together take less than under release 1, and some of a busy
+    /// one's tell, if there is more than one node and console.
     pub fn hold(&self) -> Agreed {
         for Size { n, m, quiet, busy } in &self.sizes {
             let is_whole = |counts: &Counts| counts.finished.operations == u64::from(OPERATIONS);

@@ -1,6 +1,6 @@
-//! The release in the words (Paper 4): boards on which a read lacks one reply, with the same tag as all before it, and on which
-//! the release is changed and nothing else. Whatever the number, the board is well formed; the reply finishes the read where the
-//! number is 2, and turns it where it is any other.
+//! The release in the words (Paper 4): boards on which a read lacks one reply, with the same tag as all before it, and
+//! on which the release is changed and nothing else. Whatever the number, the board is well formed; the reply finishes
+//! the read where the number is 2, and turns it where it is any other.
 use crate::beside::{both, differ, Agreed};
 use crate::damaged::some_board;
 use crate::faults::Faulty;
@@ -9,8 +9,8 @@ use crate::words::{self, Words, RELEASE};
 use common::Chance;
 use hatukeno::Board;
 
-/// On each size boards are drawn, fewer than STEPS into a run, until there are OF_EACH; at most DRAWN, and if that does not do it is
-/// a difference.
+/// On each size boards are drawn, fewer than STEPS into a run, until there are OF_EACH; at most DRAWN, and if that does
+/// not do it is a difference.
 const STEPS: u32 = 300;
 const OF_EACH: usize = 10;
 const DRAWN: u32 = 10_000;

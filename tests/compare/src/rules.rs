@@ -1,7 +1,8 @@
-//! Demand 3's three rules, held to a run of the library by its steps and their answers alone: the progress rule with Paper 2's
-//! majority after each accepted step, the delivery bound at each delivery, the freshness rule at each finish. They are the same
-//! under both releases; an early finish (Paper 4) is held to half the bound besides, since it takes one phase. And what the runs
-//! show, counted: finishes, node ups, how replies compared and what they did to the mark, and frames that were withdrawn.
+//! Demand 3's three rules, held to a run of the library by its steps and their answers alone: the progress rule with
+//! Paper 2's majority after each accepted step, the delivery bound at each delivery, the freshness rule at each finish.
+//! They are the same under both releases; an early finish (Paper 4) is held to half the bound besides, since it takes
+//! one phase. And what the runs show, counted: finishes, node ups, how replies compared and what they did to the mark,
+//! and frames that were withdrawn.
 use crate::beside::{differ, Agreed};
 use crate::model::{Answer, Compared, Frame, Kind, Outcome, Step, Tag};
 use crate::words::{mark, read};
@@ -35,8 +36,8 @@ pub struct Counts {
     pub finished: Finished,
     pub reads: Finished,
     pub early: Finished,
-    /// Accepted node ups, those of them with a frame waiting for the node, and how many times a console with no frame to deliver
-    /// had one again after one of them.
+    /// Accepted node ups, those of them with a frame waiting for the node, and how many times a console with no frame
+    /// to deliver had one again after one of them.
     pub node_ups: u64,
     pub waited_for: u64,
     pub again: u64,
@@ -46,14 +47,15 @@ pub struct Counts {
     pub lower: u64,
     pub same: u64,
     pub higher: u64,
-    /// Replies taken in that set the mark, kept it on, cleared it by a differing tag, by the turn, and by an early finish.
+    /// Replies taken in that set the mark, kept it on, cleared it by a differing tag, by the turn, and by an early
+    /// finish.
     pub set: u64,
     pub kept: u64,
     pub cleared: u64,
     pub turned: u64,
     pub ended: u64,
-    /// Asks and puts that were withdrawn (Paper 6), those of both to a node that was down, and puts that their node, which was up,
-    /// would have taken.
+    /// Asks and puts that were withdrawn (Paper 6), those of both to a node that was down, and puts that their node,
+    /// which was up, would have taken.
     pub asks_withdrawn: u64,
     pub puts_withdrawn: u64,
     pub withdrawn_from_down: u64,
@@ -107,7 +109,8 @@ pub struct Rules {
     /// The most accepted deliveries of an operation, and of a read that finishes early.
     pub deliveries: u64,
     pub early_deliveries: u64,
-    /// Freshness: whether an operation of this kind must have a higher tag than those finished before it, or else one no lower.
+    /// Freshness: whether an operation of this kind must have a higher tag than those finished before it, or else one
+    /// no lower.
     pub rises: fn(Kind) -> bool,
 }
 

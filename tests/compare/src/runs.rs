@@ -49,7 +49,8 @@ pub fn run(n: u32, m: u32, crashes: bool, chance: &mut Chance, faulty: Faulty, c
     listed_after_fresh(n, m, &list, &ran, faulty)
 }
 
-/// The same run as a list that begins with a fresh, on a board of release 2 and on words that are no well-formed board's.
+/// The same run as a list that begins with a fresh, on a board of release 2 and on words that are no well-formed
+/// board's.
 fn listed_after_fresh(n: u32, m: u32, list: &[hatukeno::Step], ran: &[Ran; 2], faulty: Faulty) -> Agreed {
     let list = [&[hatukeno::Step::Fresh { n, m }], list].concat();
     let [_, second] = ran;

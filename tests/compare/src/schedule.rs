@@ -1,6 +1,6 @@
-//! The program of Papers 1 and 2 as they say it: the bytes of a whole input, and the bytes of the whole output. Nothing here is
-//! shared with the program. The lines are document 01's ('Lines that programs read and write'), the steps those of model.rs on
-//! boards of release 1 (Paper 4).
+//! The program of Papers 1 and 2 as they say it: the bytes of a whole input, and the bytes of the whole output. Nothing
+//! here is shared with the program. The lines are document 01's ('Lines that programs read and write'), the steps those
+//! of model.rs on boards of release 1 (Paper 4).
 use crate::model::{Model, Outcome, Step};
 use std::io::Write;
 
@@ -11,7 +11,8 @@ pub const TOO_LONG: u32 = 13;
 pub const NOT_THREE_FIELDS: u32 = 11;
 pub const UNKNOWN_VERB: u32 = 12;
 
-/// What a line is answered: the outcome, or the refusal. Paper 3 leaves lines as they are: how a reply compared is not in them.
+/// What a line is answered: the outcome, or the refusal. Paper 3 leaves lines as they are: how a reply compared is not
+/// in them.
 pub type Answer = Result<Outcome, u32>;
 
 /// A line and what ended it: CR LF, LF, or nothing at the end of the input.
@@ -30,8 +31,8 @@ pub fn lines(input: &[u8]) -> impl Iterator<Item = Line<'_>> {
     })
 }
 
-/// How many of the bytes up to an LF or the end of the input are the line's end. One CR before the LF is; a CR with no LF after
-/// it belongs to the line.
+/// How many of the bytes up to an LF or the end of the input are the line's end. One CR before the LF is; a CR with no
+/// LF after it belongs to the line.
 fn end_length(piece: &[u8]) -> usize {
     if piece.ends_with(b"\r\n") {
         2

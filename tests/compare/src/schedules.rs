@@ -131,8 +131,8 @@ impl Drawn<'_> {
     }
 }
 
-/// The lengths of the pieces in which an input is fed. What waits in the pipe is read together; only a short input that is fed byte
-/// by byte, now and then, is sure to be read so.
+/// The lengths of the pieces in which an input is fed. What waits in the pipe is read together; only a short input that
+/// is fed byte by byte, now and then, is sure to be read so.
 fn pieces(length: usize, chance: &mut Chance) -> Vec<usize> {
     let most = match chance.below(8) {
         0 if length <= 200 => 1,

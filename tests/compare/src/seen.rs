@@ -85,8 +85,8 @@ impl Seen {
         each.map(|of| self.counts.iter().flatten().map(of).sum())
     }
 
-    /// Nodes that came back with frames waiting for them and with none, and so that a console went on; and node downs and node ups
-    /// twice in a row.
+    /// Nodes that came back with frames waiting for them and with none, and so that a console went on; and node downs
+    /// and node ups twice in a row.
     fn node_ups(&self) -> [u64; 4] {
         self.sums([|t| t.waited_for, |t| t.node_ups - t.waited_for, |t| t.again, |t| t.twice])
     }
@@ -105,7 +105,8 @@ impl Seen {
         ])
     }
 
-    /// Asks and puts that were withdrawn, from nodes that were down and from nodes that were up, and puts that would have landed.
+    /// Asks and puts that were withdrawn, from nodes that were down and from nodes that were up, and puts that would
+    /// have landed.
     fn withdrawn(&self) -> [u64; 5] {
         self.sums([
             |t| t.asks_withdrawn,
