@@ -270,15 +270,14 @@ impl Model {
             Step::Deliver(c, k) => {
                 has_console(c)?;
                 has_node(k)?;
-                match self.cells.get(&(c, k)) {
-                    None => Err(8),
-                    Some(frame) if self.is_withdrawn(c, frame) => Ok(()),
-                    Some(Frame::Ask | Frame::Put(..)) => is_node_up(k),
-                    Some(Frame::Reply(tag, value)) => match self.heard(c, k, *tag, *value) {
-                        Some((x, _)) => self.ask_last_ts(&x),
-                        None => Ok(()),
-                    },
-                    Some(Frame::Ack) => Ok(()),
+                let frame = self.cells.get(&(c, k)).ok_or(8u32)?;
+                if self.is_withdrawn(c, frame) {
+                    return Ok(());
+                }
+                match frame {
+                    Frame::Ask | Frame::Put(..) => is_node_up(k),
+                    Frame::Reply(tag, value) => self.ask_last_ts(c, k, *tag, *value),
+                    Frame::Ack => Ok(()),
                 }
             }
             Step::NodeDown(k) => {
@@ -312,9 +311,15 @@ impl Model {
     }
 
     /// If this delivery turns a write, is best ts, with this reply taken in, below 4,000,000,000?
-    pub fn ask_last_ts(&self, x: &Console) -> Result<(), u32> {
+    fn ask_last_ts(&self, c: u32, k: u32, tag: Tag, value: u32) -> Result<(), u32> {
+        let can_turn = self.heard(c, k, tag, value).is_none_or(|(x, _)| self.can_turn(&x));
+        question(10, can_turn)
+    }
+
+    /// Whether a console with a reply taken in may go on: it turns no write, or has a ts left for it.
+    pub fn can_turn(&self, x: &Console) -> bool {
         let turns_write = x.state == State::Asking(Kind::Write) && x.answered.len() >= self.majority();
-        question(10, !turns_write || x.best.0 < MAX_TS)
+        !turns_write || x.best.0 < MAX_TS
     }
 }
 

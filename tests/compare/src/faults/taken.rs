@@ -139,8 +139,8 @@ impl Taken<'_> {
     /// The delivery goes on from a reply that is taken in so.
     pub fn hear(&mut self, heard: Heard) {
         let Heard { c, k, console, compared } = heard;
-        if let Err(refusal) = self.before.ask_last_ts(&console) {
-            return self.refuse(refusal);
+        if !self.before.can_turn(&console) {
+            return self.refuse(10);
         }
         self.next = self.before.clone();
         self.next.cells.remove(&(c, k));
