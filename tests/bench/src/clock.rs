@@ -1,4 +1,5 @@
-//! Time that this thread, or processes that it has waited for, have spent on a processor: what else the machine does is not in it.
+//! Time that this thread, or processes that it has waited for, have spent on a processor: what else the machine does is
+//! not in it.
 use std::sync::OnceLock;
 
 #[repr(C)]
@@ -60,5 +61,8 @@ pub fn of_processes() -> f64 {
     let mut usage = Usage::default();
     // SAFETY: `Usage` is C's rusage on 64-bit Linux, and is lent for the call.
     assert_eq!(unsafe { getrusage(CHILDREN, &mut usage) }, 0, "what processes took cannot be read");
-    [usage.user, usage.system].iter().map(|time| time.seconds as f64 + time.parts as f64 / 1e6).sum()
+    [usage.user, usage.system]
+        .iter()
+        .map(|time| time.seconds as f64 + time.parts as f64 / 1e6)
+        .sum()
 }

@@ -1,5 +1,10 @@
 //! Times a whole schedule: the program, the same in plain Rust, and the model, each a process that reads the same file.
-use crate::{clock, goes_on, medians, Chance, Plain, Side, Step, LENGTH};
+use crate::clock;
+use crate::drawing::{goes_on, likely_step};
+use crate::runs::LENGTH;
+use crate::side::{Plain, Side};
+use crate::timing::medians;
+use common::{Chance, Step};
 use hatukeno::{Outcome, Refusal};
 use std::fmt::Write;
 use std::fs::{self, File};
@@ -9,7 +14,7 @@ use std::process::{exit, Command, Stdio};
 
 /// What is timed is written here.
 const SCHEDULE: &str = "target/bench.csv";
-/// The lines of a long run, on five nodes and eight consoles; of ten runs one is long. The others are as in main.rs.
+/// The lines of a long run, on five nodes and eight consoles; of ten runs one is long. The others are as in runs.rs.
 const LONG: usize = 10_000;
 const ROUNDS: usize = 5;
 
@@ -38,8 +43,8 @@ impl Schedule {
         schedule
     }
 
-    /// A run from a fresh board, up to that many lines, or fewer if no operation can finish any more. In a long run no console goes
-    /// down, since none comes back.
+    /// A run from a fresh board, up to that many lines, or fewer if no operation can finish any more. In a long run no
+    /// console goes down, since none comes back.
     fn add_run(&mut self, chance: &mut Chance, is_long: bool, to: usize) {
         let (n, m) = if is_long {
             (5, 8)
@@ -49,17 +54,11 @@ impl Schedule {
         let mut board = Plain::made(n, m).expect("an allowed size");
         self.add([0, n, m], Ok(Outcome::Done));
         while self.lines < to && goes_on(&board.in_words()) {
-            let step = chance.step(&board.in_words());
-            let numbers = match step {
-                Step::ConsoleDown(_) if is_long => continue,
-                Step::BeginRead(c) => [1, c, 0],
-                Step::BeginWrite(c, v) => [2, c, v],
-                Step::Deliver(c, k) => [3, c, k],
-                Step::NodeDown(k) => [4, k, 0],
-                Step::ConsoleDown(c) => [5, c, 0],
-                Step::NodeUp(k) => [6, k, 0],
-            };
-            self.add(numbers, board.step(step).map(|answer| answer.outcome));
+            let step = likely_step(&board.in_words(), chance);
+            if is_long && matches!(step, Step::ConsoleDown(_)) {
+                continue;
+            }
+            self.add(step.numbers(), board.step(step).map(|answer| answer.outcome));
         }
     }
 

@@ -1,6 +1,7 @@
-//! Three files of the same calls, which tests/both-libraries writes: the proved library as it is, a copy of it, and the library with
-//! tags compared by order, as before Paper 5. They are loaded and called alike.
-use crate::{Side, Step, Words};
+//! Three files of the same calls, which tests/both-libraries writes: the proved library as it is, a copy of it, and the
+//! library with tags compared by order, as before Paper 5. They are loaded and called alike.
+use crate::side::Side;
+use common::{Step, Words};
 use hatukeno::{Refusal, BOARD_WORDS};
 use std::ffi::{c_char, c_int, c_void, CStr};
 use std::mem::transmute;

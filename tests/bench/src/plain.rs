@@ -1,5 +1,7 @@
-//! The rules of document 01 and Papers 2, 3, 4 and 6 in plain Rust, written to be fast: one struct by value, changed in place.
-//! With CHECKED every step asks question 1 first, without it none does; all else is the same code.
+//! The rules of document 01 and Papers 2, 3, 4 and 6 in plain Rust, written to be fast: one struct by value, changed in
+//! place. With CHECKED every step asks question 1 first, without it none does; all else is the same code.
+use common::words::{Words, CELL, CELLS, CONSOLE, CONSOLES, NODE, NODES, RELEASE};
+use common::{Kind, State};
 use hatukeno::{Answer, Compared, Outcome, Refusal, Release, Tag, BOARD_WORDS};
 use std::cmp::Ordering;
 
@@ -8,35 +10,11 @@ const MAX_CONSOLES: usize = 8;
 const MAX_TS: u32 = 4_000_000_000;
 const ZERO: Tag = Tag { ts: 0, console: 0 };
 
-/// Where the library's words have the release (2 is release 2, every other number release 1), and where those of the nodes, the
-/// consoles and the cells begin; how many each has (crates/words/specs/Words.antt).
-const RELEASE: usize = 2;
-pub const NODES: usize = 3;
-pub const NODE: usize = 4;
-pub const CONSOLES: usize = NODES + NODE * MAX_NODES;
-pub const CONSOLE: usize = 7;
-pub const CELLS: usize = CONSOLES + CONSOLE * MAX_CONSOLES;
-pub const CELL: usize = 4;
-
 #[derive(Clone, Copy, PartialEq)]
 struct Node {
     up: bool,
     tag: Tag,
     value: u32,
-}
-
-#[derive(Clone, Copy, PartialEq)]
-enum Kind {
-    Read,
-    Write,
-}
-
-#[derive(Clone, Copy, PartialEq)]
-enum State {
-    Idle,
-    Asking(Kind),
-    Telling(Kind),
-    Down,
 }
 
 #[derive(Clone, Copy, PartialEq)]
@@ -192,28 +170,24 @@ impl<const CHECKED: bool> Board<CHECKED> {
     }
 
     pub fn node_down(&mut self, node: u32) -> Result<Answer, Refusal> {
-        self.ask_question_1()?;
-        if node >= self.n {
-            return Err(Refusal(5));
-        }
-        let x = &mut self.nodes[node as usize];
-        if !x.up {
-            return Err(Refusal(9));
-        }
-        x.up = false;
-        took_none(Outcome::Done)
+        self.set_up(node, false, Refusal(9))
     }
 
     pub fn node_up(&mut self, node: u32) -> Result<Answer, Refusal> {
+        self.set_up(node, true, Refusal(14))
+    }
+
+    /// The node goes down or comes back; it is refused so if it is so already.
+    fn set_up(&mut self, node: u32, up: bool, already: Refusal) -> Result<Answer, Refusal> {
         self.ask_question_1()?;
         if node >= self.n {
             return Err(Refusal(5));
         }
         let x = &mut self.nodes[node as usize];
-        if x.up {
-            return Err(Refusal(14));
+        if x.up == up {
+            return Err(already);
         }
-        x.up = true;
+        x.up = up;
         took_none(Outcome::Done)
     }
 
@@ -362,7 +336,7 @@ impl<const CHECKED: bool> Board<CHECKED> {
     }
 
     /// The board in the library's words.
-    pub fn words(&self) -> [u32; BOARD_WORDS] {
+    pub fn words(&self) -> Words {
         let mut w = [0; BOARD_WORDS];
         (w[0], w[1]) = (self.n, self.m);
         w[RELEASE] = match self.release {
@@ -373,16 +347,8 @@ impl<const CHECKED: bool> Board<CHECKED> {
             four.copy_from_slice(&[u32::from(x.up), x.tag.ts, x.tag.console, x.value]);
         }
         for (seven, x) in w[CONSOLES..CELLS].chunks_exact_mut(CONSOLE).zip(&self.consoles) {
-            let state = match x.state {
-                State::Idle => 0,
-                State::Asking(Kind::Read) => 1,
-                State::Asking(Kind::Write) => 2,
-                State::Telling(Kind::Read) => 3,
-                State::Telling(Kind::Write) => 4,
-                State::Down => 5,
-            };
             let (answered, alike) = (x.answered.into(), x.alike.into());
-            seven.copy_from_slice(&[state, x.wanted, answered, x.best.ts, x.best.console, x.value, alike]);
+            seven.copy_from_slice(&[x.state.word(), x.wanted, answered, x.best.ts, x.best.console, x.value, alike]);
         }
         for (four, x) in w[CELLS..].chunks_exact_mut(CELL).zip(&self.cells) {
             four.copy_from_slice(&match *x {
@@ -397,7 +363,7 @@ impl<const CHECKED: bool> Board<CHECKED> {
     }
 
     /// The board that these words are.
-    pub fn from_words(w: &[u32; BOARD_WORDS]) -> Self {
+    pub fn from_words(w: &Words) -> Self {
         let tag = |w: &[u32]| Tag { ts: w[0], console: w[1] };
         Board {
             n: w[0],
@@ -414,14 +380,7 @@ impl<const CHECKED: bool> Board<CHECKED> {
             consoles: std::array::from_fn(|c| {
                 let seven = &w[CONSOLES + CONSOLE * c..];
                 Console {
-                    state: match seven[0] {
-                        0 => State::Idle,
-                        1 => State::Asking(Kind::Read),
-                        2 => State::Asking(Kind::Write),
-                        3 => State::Telling(Kind::Read),
-                        4 => State::Telling(Kind::Write),
-                        _ => State::Down,
-                    },
+                    state: State::of_word(seven[0]),
                     wanted: seven[1],
                     answered: seven[2] as u8,
                     best: tag(&seven[3..]),

@@ -1,5 +1,5 @@
-//! The program of Papers 1 and 2 in plain Rust over plain.rs: one line at a time in memory that is used again, one board changed
-//! in place.
+//! The program of Papers 1 and 2 in plain Rust over plain.rs: one line at a time in memory that is used again, one
+//! board changed in place.
 use crate::plain::Board;
 use hatukeno::{Outcome, Refusal};
 use std::io::{self, BufRead, BufWriter, Write};

@@ -1,7 +1,9 @@
-//! What comparing tags takes of a delivery: by number, as the library does, and by order, as it did before Paper 5. Both stand
-//! here in plain Rust.
-use crate::plain::{CELL, CELLS, CONSOLE, CONSOLES, NODE, NODES};
-use crate::{clock, is_dead, Step, Words};
+//! What comparing tags takes of a delivery: by number, as the library does, and by order, as it did before Paper 5.
+//! Both stand here in plain Rust.
+use crate::clock;
+use crate::drawing::is_dead;
+use common::words::{self, Words};
+use common::{State, Step};
 use hatukeno::Tag;
 use std::hint::black_box;
 
@@ -28,25 +30,24 @@ pub fn by_order(a: Tag, b: Tag) -> bool {
     a.console > b.console
 }
 
-/// Two tags that a delivery compares, and whether it does so for a reply: then also the other way round, if the first is not
-/// greater.
+/// Two tags that a delivery compares, and whether it does so for a reply: then also the other way round, if the first
+/// is not greater.
 pub struct Pair {
     tag: Tag,
     with: Tag,
     is_reply: bool,
 }
 
-/// The tags that an accepted step compares: those of a put that is handed on and of its node, or those of a reply that is taken in
-/// and of best.
+/// The tags that an accepted step compares: those of a put that is handed on and of its node, or those of a reply that
+/// is taken in and of best.
 pub fn pair(w: &Words, step: Step) -> Option<Pair> {
     let Step::Deliver(c, k) = step else { return None };
     let tag = |at: usize| Tag {
         ts: w[at],
         console: w[at + 1],
     };
-    let cell = CELLS + CELL * (c * 5 + k) as usize;
-    let console = CONSOLES + CONSOLE * c as usize;
-    let is_asking = matches!(w[console], 1 | 2);
+    let (cell, console) = (words::cell(c, k), words::console(c));
+    let is_asking = matches!(State::of_word(w[console]), State::Asking(_));
     let has_answered = w[console + 2] >> k & 1 == 1;
     match w[cell] {
         2 if is_asking && !has_answered => Some(Pair {
@@ -56,7 +57,7 @@ pub fn pair(w: &Words, step: Step) -> Option<Pair> {
         }),
         3 if !is_dead(w, c) => Some(Pair {
             tag: tag(cell + 1),
-            with: tag(NODES + NODE * k as usize + 1),
+            with: tag(words::node(k) + 1),
             is_reply: false,
         }),
         _ => None,

@@ -1,6 +1,6 @@
-//! Schedules for the comparison: some at every edge of the rules for lines, and any number by chance, of good lines and damaged ones.
-use crate::chance::Chance;
-use crate::model::Step;
+//! Schedules for the comparison: some at every edge of the rules for lines, and any number by chance, of good lines and
+//! damaged ones.
+use common::{Chance, Step};
 
 /// What a damaged line may have for a field.
 const ODD_FIELDS: [&str; 40] = [
@@ -129,7 +129,8 @@ const BACK_LINES: [&str; 17] = [
 /// Ends of lines, and what is no end: nothing, a CR alone, and an LF with its CR at the wrong side.
 const ENDS: [&[u8]; 6] = [b"\n", b"\r\n", b"\r\r\n", b"", b"\r", b"\n\r"];
 
-/// A read of console 0, good if it is no longer than a line may be: it has this many bytes by the zeros in its second field.
+/// A read of console 0, good if it is no longer than a line may be: it has this many bytes by the zeros in its second
+/// field.
 fn stretched(length: usize) -> Vec<u8> {
     format!("1,{},0", "0".repeat(length.max(5) - 4)).into_bytes()
 }
@@ -164,8 +165,8 @@ pub fn edges() -> Vec<Vec<u8>> {
     schedules
 }
 
-/// Node 1 of 2 is down and a frame waits for it; the lines after the odd one show whether it is up again. In the last schedule a
-/// node keeps what was written, over its down and up.
+/// Node 1 of 2 is down and a frame waits for it; the lines after the odd one show whether it is up again. In the last
+/// schedule a node keeps what was written, over its down and up.
 fn returns() -> Vec<Vec<u8>> {
     let mut schedules: Vec<Vec<u8>> = BACK_LINES
         .iter()
@@ -202,7 +203,8 @@ impl Drawing<'_> {
         }
     }
 
-    /// A schedule of so many lines, or one or two more; most begin with a fresh, and some end in the midst of a line's end.
+    /// A schedule of so many lines, or one or two more; most begin with a fresh, and some end in the midst of a line's
+    /// end.
     pub fn schedule(&mut self, lines: u64) -> Vec<u8> {
         let mut schedule = Vec::new();
         for i in 0..lines {
@@ -249,13 +251,11 @@ impl Drawing<'_> {
 
     /// Verb and numbers of a step that may be taken; a number that it has no use for is any.
     fn step(&mut self) -> [u32; 3] {
-        match self.chance.step(self.n, self.m, self.crashes) {
-            Step::BeginRead(c) => [1, c, self.chance.value()],
-            Step::BeginWrite(c, v) => [2, c, v],
-            Step::Deliver(c, k) => [3, c, k],
-            Step::NodeDown(k) => [4, k, self.chance.value()],
-            Step::ConsoleDown(c) => [5, c, self.chance.value()],
-            Step::NodeUp(k) => [6, k, self.chance.value()],
+        let step = self.chance.step(self.n, self.m, self.crashes);
+        let [verb, first, second] = step.numbers();
+        match step {
+            Step::BeginWrite(..) | Step::Deliver(..) => [verb, first, second],
+            _ => [verb, first, self.chance.value()],
         }
     }
 

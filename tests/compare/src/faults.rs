@@ -1,85 +1,206 @@
-//! Deliberate faults, each with its number for --fault: to show that a comparison can fail. 0 is none.
-pub type Fault = u32;
+//! Deliberate faults, to show that the comparison can fail. Each is a misreading of a sentence of the papers, put round
+//! the model: it changes what the model is given or what it answers.
+mod early;
+mod lines;
+mod rules;
+mod steps;
+mod taken;
+mod withdrawn;
 
-// In the board's rules (model.rs): those of document 01, of Paper 2, of Paper 3.
-pub const READ_UNTOLD: Fault = 1;
-pub const TS_ONLY: Fault = 2;
-pub const SET_KEPT: Fault = 3;
-pub const EQUAL_TAKEN: Fault = 4;
-pub const NEXT_AFTER_READ: Fault = 5;
-pub const CELLS_CLEARED: Fault = 6;
-pub const NINE_CONSOLES: Fault = 7;
-pub const DISK_LOST: Fault = 8;
-pub const UP_BEFORE_NUMBER: Fault = 9;
-pub const WAITING_LOST: Fault = 10;
-pub const UP_TWICE: Fault = 11;
-pub const NEW_BEST_COMPARED: Fault = 12;
-pub const MARK_BY_ANY: Fault = 13;
-pub const MARK_KEPT_AT_TURN: Fault = 14;
-pub const REFUSED_COMPARED: Fault = 15;
-pub const MARK_KEPT_BY_LOWER: Fault = 16;
-pub const DISCARDED_COMPARED: Fault = 17;
-pub const ONE_UNMARKED: Fault = 18;
+use crate::model::{Answer, Model, Step};
+use crate::rules::Rules;
+use crate::schedule::{self, Line};
+use crate::words::{self, Words};
+use early::*;
+use lines::*;
+use rules::*;
+pub use steps::*;
+pub use taken::Taken;
+use withdrawn::*;
 
-// In demand 3's rules (rules.rs).
-pub const BOUND_ONE_LESS: Fault = 19;
-pub const MAJORITY_ONE_LESS: Fault = 20;
-pub const READS_HIGHER: Fault = 21;
+pub struct Fault {
+    pub name: &'static str,
+    wraps: Wraps,
+}
 
-// In the rules for lines (schedule.rs).
-pub const LIMIT_63: Fault = 22;
-pub const LIMIT_65: Fault = 23;
-pub const CR_COUNTED: Fault = 24;
-pub const LAST_CR_LEFT_OFF: Fault = 25;
-pub const BOTH_CRS_LEFT_OFF: Fault = 26;
-pub const LAST_LINE_LOST: Fault = 27;
-pub const EMPTY_UNANSWERED: Fault = 28;
-pub const FIELDS_BEFORE_LENGTH: Fault = 29;
-pub const VERB_BEFORE_FIELDS: Fault = 30;
-pub const NUMBER_WRAPS: Fault = 31;
-pub const HALF_QUOTED: Fault = 32;
-pub const UNUSED_UNREAD: Fault = 33;
-pub const SMALL_BOARD_TAKEN: Fault = 34;
-pub const NODE_UP_UNKNOWN: Fault = 35;
+/// What a fault is put round.
+#[derive(Clone, Copy)]
+enum Wraps {
+    /// The board that a step is put to: it is taken for another.
+    Board(fn(&mut Model)),
+    /// A step: it answers something else, or leaves another board.
+    Step(fn(&mut Taken)),
+    /// The board that these words are.
+    Words(fn(&Words, &mut Model)),
+    /// A fresh in a list, on the first of these boards.
+    List(fn(&Model, &mut Model)),
+    /// The rules that a run is held to.
+    Rules(fn(&mut Rules)),
+    /// A line as it is found in an input.
+    Found(fn(Line) -> Option<Line>),
+    /// A line that is put to a board.
+    Line(fn(&mut Model, Line) -> schedule::Answer),
+}
 
-// Of Paper 4: which reads finish early, what an early finish does, and which release a board has.
-pub const EARLY_WRITE: Fault = 36;
-pub const EARLY_UNALIKE: Fault = 37;
-pub const EARLY_BY_OLD_MARK: Fault = 38;
-pub const EARLY_UNDER_ONE: Fault = 39;
-pub const EARLY_ONE_SHORT: Fault = 40;
-pub const EARLY_CLEARS_CELLS: Fault = 41;
-pub const EARLY_SENDS_PUTS: Fault = 42;
-pub const EARLY_STAYS_TELLING: Fault = 43;
-pub const EARLY_KEEPS_BEST: Fault = 44;
-pub const EARLY_KEEPS_MARK: Fault = 45;
-pub const EARLY_UNCOMPARED: Fault = 46;
-pub const EARLY_ASKS_10: Fault = 47;
-pub const EARLY_BOUND_ONE_LESS: Fault = 48;
-pub const RELEASE_LOST: Fault = 49;
-pub const LIST_KEEPS_RELEASE: Fault = 50;
-pub const THREE_IS_TWO: Fault = 51;
-pub const LINES_UNDER_TWO: Fault = 52;
+macro_rules! faults {
+    ($($wraps:ident($name:ident),)*) => {
+        /// The first is number 1.
+        pub const FAULTS: &[Fault] = &[$(Fault { name: stringify!($name), wraps: Wraps::$wraps($name) }),*];
+    };
+}
 
-// Of Paper 5: wrong numbers by which the tag of a put or of a reply is compared.
-pub const PUT_IN_32_BITS: Fault = 53;
-pub const PUT_TIMES_4: Fault = 54;
-pub const REPLY_IN_32_BITS: Fault = 55;
-pub const REPLY_TIMES_4: Fault = 56;
+faults! {
+    // In the board's rules: those of document 01, of Paper 2, of Paper 3.
+    Step(read_untold),
+    Step(ts_only),
+    Step(set_kept),
+    Step(equal_taken),
+    Step(next_after_read),
+    Step(cells_cleared),
+    Board(nine_consoles),
+    Step(disk_lost),
+    Step(up_before_number),
+    Step(waiting_lost),
+    Step(up_twice),
+    Step(new_best_compared),
+    Step(mark_by_any),
+    Step(mark_kept_at_turn),
+    Step(refused_compared),
+    Step(mark_kept_by_lower),
+    Step(discarded_compared),
+    Board(one_unmarked),
+    // In demand 3's rules.
+    Rules(bound_one_less),
+    Rules(majority_one_less),
+    Rules(reads_higher),
+    // In the rules for lines.
+    Line(limit_63),
+    Line(limit_65),
+    Line(cr_counted),
+    Found(last_cr_left_off),
+    Found(both_crs_left_off),
+    Found(last_line_lost),
+    Found(empty_unanswered),
+    Line(fields_before_length),
+    Line(verb_before_fields),
+    Line(number_wraps),
+    Line(half_quoted),
+    Line(unused_unread),
+    Line(small_board_taken),
+    Line(node_up_unknown),
+    // Of Paper 4: which reads finish early, what an early finish does, and which release a board has.
+    Step(early_write),
+    Step(early_unalike),
+    Step(early_by_old_mark),
+    Step(early_under_one),
+    Step(early_one_short),
+    Step(early_clears_cells),
+    Step(early_sends_puts),
+    Step(early_stays_telling),
+    Step(early_keeps_best),
+    Step(early_keeps_mark),
+    Step(early_uncompared),
+    Step(early_asks_10),
+    Rules(early_bound_one_less),
+    Step(release_lost),
+    List(list_keeps_release),
+    Words(three_is_two),
+    Line(lines_under_two),
+    // Of Paper 5: wrong numbers by which the tag of a put or of a reply is compared.
+    Step(put_in_32_bits),
+    Step(put_times_4),
+    Step(reply_in_32_bits),
+    Step(reply_times_4),
+    // Of Paper 6: which frames are withdrawn, when, and what else becomes of them and of the board.
+    Step(withdrawn_after_9),
+    Step(withdrawn_taken),
+    Step(withdrawn_by_row),
+    Step(withdrawn_of_idle),
+    Step(ask_not_withdrawn),
+    Step(put_not_withdrawn),
+    Step(withdrawn_handed),
+    Step(withdrawn_stays),
+    Step(withdrawn_at_down),
+}
 
-// Of Paper 6: which frames are withdrawn, when, and what else becomes of them and of the board.
-pub const WITHDRAWN_AFTER_9: Fault = 57;
-pub const WITHDRAWN_TAKEN: Fault = 58;
-pub const WITHDRAWN_BY_ROW: Fault = 59;
-pub const WITHDRAWN_OF_IDLE: Fault = 60;
-pub const ASK_NOT_WITHDRAWN: Fault = 61;
-pub const PUT_NOT_WITHDRAWN: Fault = 62;
-pub const WITHDRAWN_HANDED: Fault = 63;
-pub const WITHDRAWN_STAYS: Fault = 64;
-pub const WITHDRAWN_AT_DOWN: Fault = 65;
-pub const LAST: Fault = WITHDRAWN_AT_DOWN;
+/// The model with a fault round it, or as it is.
+#[derive(Clone, Copy)]
+pub struct Faulty(pub Option<&'static Fault>);
 
-/// Whether the fault is to be found by schedules; the others are by steps of the library.
-pub fn is_of_lines(fault: Fault) -> bool {
-    (LIMIT_63..=NODE_UP_UNKNOWN).contains(&fault) || fault == LINES_UNDER_TWO
+impl Faulty {
+    pub const NOT: Faulty = Faulty(None);
+
+    /// With the fault of this number, or with none if it is 0.
+    pub fn numbered(number: u64) -> Faulty {
+        Faulty(FAULTS.get((number as usize).wrapping_sub(1)))
+    }
+
+    fn wraps(self) -> Option<Wraps> {
+        self.0.map(|fault| fault.wraps)
+    }
+
+    pub fn is_faulty(self) -> bool {
+        self.0.is_some()
+    }
+
+    /// Whether the fault is to be found by schedules; the others are by steps of the library.
+    pub fn is_of_lines(self) -> bool {
+        matches!(self.wraps(), Some(Wraps::Found(_) | Wraps::Line(_)))
+    }
+
+    pub fn step(self, board: &Model, step: Step) -> (Answer, Model) {
+        match self.wraps() {
+            Some(Wraps::Step(change)) => Taken::changed(board, step, change),
+            Some(Wraps::Board(_)) => self.taken_for(board).step(step),
+            _ => board.step(step),
+        }
+    }
+
+    pub fn is_well_formed(self, board: &Model) -> bool {
+        self.taken_for(board).is_well_formed()
+    }
+
+    fn taken_for(self, board: &Model) -> Model {
+        let mut given = board.clone();
+        if let Some(Wraps::Board(change)) = self.wraps() {
+            change(&mut given);
+        }
+        given
+    }
+
+    pub fn read(self, words: &Words) -> Model {
+        let mut board = words::read(words);
+        if let Some(Wraps::Words(change)) = self.wraps() {
+            change(words, &mut board);
+        }
+        board
+    }
+
+    /// A fresh in a list, put to this board.
+    pub fn fresh_in_list(self, board: &Model, n: u32, m: u32) -> Result<Model, u32> {
+        let mut made = Model::fresh(n, m)?;
+        if let Some(Wraps::List(change)) = self.wraps() {
+            change(board, &mut made);
+        }
+        Ok(made)
+    }
+
+    /// Demand 3's rules for n nodes.
+    pub fn rules(self, n: u32) -> Rules {
+        let mut rules = Rules::of(n);
+        if let Some(Wraps::Rules(change)) = self.wraps() {
+            change(&mut rules);
+        }
+        rules
+    }
+
+    /// The answers to all lines of an input.
+    pub fn answers(self, input: &[u8]) -> Vec<schedule::Answer> {
+        let lines = schedule::lines(input);
+        match self.wraps() {
+            Some(Wraps::Found(change)) => schedule::run(lines.filter_map(change), schedule::answer),
+            Some(Wraps::Line(answer)) => schedule::run(lines, answer),
+            _ => schedule::run(lines, schedule::answer),
+        }
+    }
 }

@@ -1,15 +1,15 @@
-//! Paper 3's rule for the mark, clause by clause: boards on which one console's mark is wrong and all else is as a run left it, and
-//! beside each the same board with the mark put right.
-use crate::chance::Chance;
-use crate::faults::Fault;
-use crate::model::{Console, State, Step};
-use crate::words::{self, place_of_mark, Words};
-use crate::{both, in_list, listed, put, some_board};
+//! Paper 3's rule for the mark, clause by clause: boards on which one console's mark is wrong and all else is as a run
+//! left it, and beside each the same board with the mark put right.
+use crate::beside::{both, differ, listed, put, Agreed};
+use crate::damaged::some_board;
+use crate::faults::Faulty;
+use crate::model::{Answer, Console, State, Step};
+use crate::words::{mark, Words};
+use common::Chance;
 use hatukeno::{Board, Refusal};
-use std::process::exit;
 
-/// On each size boards are drawn, fewer than STEPS into a run, until OF_EACH are tried for each place; at most DRAWN of them, and
-/// if that does not do the program ends.
+/// On each size boards are drawn, fewer than STEPS into a run, until OF_EACH are tried for each place; at most DRAWN of
+/// them, and if that does not do it is a difference.
 const STEPS: u32 = 300;
 const OF_EACH: u64 = 10;
 const DRAWN: u32 = 100_000;
@@ -69,7 +69,7 @@ pub struct Marks {
 
 impl Marks {
     /// Draws boards of this size until there are enough for each place that there is on it.
-    pub fn draw(&mut self, n: u32, m: u32, chance: &mut Chance, fault: Fault) {
+    pub fn draw(&mut self, n: u32, m: u32, chance: &mut Chance, faulty: Faulty) -> Agreed {
         let mut here = Marks::default();
         for _ in 0..DRAWN {
             if here.has_all(n) {
@@ -77,16 +77,16 @@ impl Marks {
             }
             let words = some_board(n, m, STEPS, chance);
             for c in 0..m {
-                here.try_console(words, c, chance, fault);
+                here.try_console(words, c, chance, faulty)?;
             }
         }
         if !here.has_all(n) {
-            println!("n = {n}, m = {m}: too few boards for the mark, {:?}", here.tried);
-            exit(1);
+            return differ(&[format!("n = {n}, m = {m}: too few boards for the mark, {:?}", here.tried)]);
         }
         for (sum, tried) in self.tried.iter_mut().zip(here.tried) {
             *sum += tried;
         }
+        Ok(())
     }
 
     fn has_all(&self, n: u32) -> bool {
@@ -95,24 +95,25 @@ impl Marks {
     }
 
     /// Tries the board with this console's mark on and with it off, unless there are enough such boards.
-    fn try_console(&mut self, words: Words, c: u32, chance: &mut Chance, fault: Fault) {
-        let here = place(&words::read(&words, fault).consoles[&c]);
+    fn try_console(&mut self, words: Words, c: u32, chance: &mut Chance, faulty: Faulty) -> Agreed {
+        let here = place(&faulty.read(&words).consoles[&c]);
         let tried = &mut self.tried[here as usize];
         if *tried == OF_EACH {
-            return;
+            return Ok(());
         }
         *tried += 1;
         let any_on = [1, 1, 2, 255, 256, u32::MAX][chance.below(6) as usize];
-        for mark in [0, any_on] {
+        for number in [0, any_on] {
             let mut words = words;
-            words[place_of_mark(c)] = mark;
+            words[mark(c)] = number;
             let is_good = match here {
-                Place::Telling | Place::Idle | Place::Down | Place::NoneAnswered => mark == 0,
-                Place::OneAnswered => mark != 0,
+                Place::Telling | Place::Idle | Place::Down | Place::NoneAnswered => number == 0,
+                Place::OneAnswered => number != 0,
                 Place::TwoOn | Place::TwoOff => true,
             };
-            try_board(words, c, is_good, chance, fault);
+            try_board(words, c, is_good, chance, faulty)?;
         }
+        Ok(())
     }
 
     pub fn print(&self) {
@@ -138,10 +139,10 @@ impl Marks {
     }
 }
 
-/// Every kind of step on the board, each from there, and all of them as one list: refused with 1 if the board is not good, and
-/// else not, and as the model answers.
-fn try_board(words: Words, c: u32, is_good: bool, chance: &mut Chance, fault: Fault) {
-    let model = words::read(&words, fault);
+/// Every kind of step on the board, each from there, and all of them as one list: refused with 1 if the board is not
+/// good, and else not, and as the model answers.
+fn try_board(words: Words, c: u32, is_good: bool, chance: &mut Chance, faulty: Faulty) -> Agreed {
+    let model = faulty.read(&words);
     let k = chance.below(model.n);
     let steps = [
         Step::BeginRead(c),
@@ -155,13 +156,17 @@ fn try_board(words: Words, c: u32, is_good: bool, chance: &mut Chance, fault: Fa
     for step in steps {
         let said = put(&mut board.clone(), step);
         if (said == Err(Refusal(1))) == is_good {
-            println!("{step:?} answered {said:?} where console {c}'s mark is {}", words[place_of_mark(c)]);
-            println!("the board is {model:?}");
-            exit(1);
+            return differ(&[
+                format!("{step:?} answered {said:?} where console {c}'s mark is {}", words[mark(c)]),
+                format!("the board is {model:?}"),
+            ]);
         }
-        both(&mut board.clone(), &mut model.clone(), step, fault);
+        both(&mut board.clone(), &mut model.clone(), step, faulty)?;
     }
     let (mut last, mut next) = (board.clone(), model);
-    let answers = steps.map(|step| both(&mut last, &mut next, step, fault));
-    listed(board, &steps.map(in_list), &answers, &last);
+    let answers: Vec<Answer> = steps
+        .into_iter()
+        .map(|step| both(&mut last, &mut next, step, faulty))
+        .collect::<Agreed<_>>()?;
+    listed(board, &steps.map(Into::into), &answers, &last)
 }

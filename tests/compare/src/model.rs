@@ -1,5 +1,6 @@
-//! The board as document 01 and Papers 2, 3, 4 and 6 say it, in sets and maps. Nothing here is shared with the library.
-use crate::faults::*;
+//! The board as document 01 and Papers 2, 3, 4 and 6 say it, in sets and maps: what it is, when it is well formed, the
+//! questions put before each step, and the steps. Nothing here is shared with the library.
+pub use common::{Kind, State, Step};
 use std::cmp::Ordering;
 use std::collections::{BTreeMap, BTreeSet};
 
@@ -7,15 +8,6 @@ pub const MAX_TS: u64 = 4_000_000_000;
 
 /// A tag: ts, then console number; so the order of tuples is the order of tags.
 pub type Tag = (u64, u64);
-
-/// Wrong numbers for a tag, by which only faults compare.
-fn in_32_bits((ts, console): Tag) -> u32 {
-    (ts * 8 + console) as u32
-}
-
-fn times_4((ts, console): Tag) -> u64 {
-    ts * 4 + console
-}
 
 #[derive(Clone, Copy, Debug, PartialEq, Eq)]
 pub enum Frame {
@@ -32,20 +24,6 @@ impl Frame {
     }
 }
 
-#[derive(Clone, Copy, Debug, PartialEq, Eq)]
-pub enum Kind {
-    Read,
-    Write,
-}
-
-#[derive(Clone, Copy, Debug, PartialEq, Eq)]
-pub enum State {
-    Idle,
-    Asking(Kind),
-    Telling(Kind),
-    Down,
-}
-
 #[derive(Clone, Debug, PartialEq, Eq)]
 pub struct Node {
     pub up: bool,
@@ -54,18 +32,18 @@ pub struct Node {
 }
 
 impl Node {
-    /// It keeps the greater tag, with its value.
-    fn take_put(&mut self, tag: Tag, value: u32, fault: Fault) {
-        let greater = match fault {
-            TS_ONLY => tag.0 > self.tag.0,
-            EQUAL_TAKEN => tag >= self.tag,
-            PUT_IN_32_BITS => in_32_bits(tag) > in_32_bits(self.tag),
-            PUT_TIMES_4 => times_4(tag) > times_4(self.tag),
-            _ => tag > self.tag,
-        };
-        if greater {
-            self.tag = tag;
-            self.value = value;
+    pub fn fresh() -> Node {
+        Node {
+            up: true,
+            tag: (0, 0),
+            value: 0,
+        }
+    }
+
+    /// If the put's tag is greater than the node's, the node takes tag and value; otherwise it keeps its own.
+    pub fn take_put(&mut self, tag: Tag, value: u32) {
+        if tag > self.tag {
+            (self.tag, self.value) = (tag, value);
         }
     }
 }
@@ -79,6 +57,41 @@ pub struct Console {
     pub value: u32,
     /// Paper 3's mark: all alike so far.
     pub alike: bool,
+}
+
+impl Console {
+    /// Nothing answered, best (0, 0) and 0, wanted value 0, mark off.
+    pub fn at_rest(state: State) -> Console {
+        Console {
+            state,
+            wanted: 0,
+            answered: BTreeSet::new(),
+            best: (0, 0),
+            value: 0,
+            alike: false,
+        }
+    }
+
+    /// Asking, and no answer yet from this node.
+    pub fn awaits_reply(&self, k: u32) -> bool {
+        matches!(self.state, State::Asking(_)) && !self.answered.contains(&k)
+    }
+
+    /// Telling, and no answer yet from this node.
+    fn awaits_ack(&self, k: u32) -> bool {
+        matches!(self.state, State::Telling(_)) && !self.answered.contains(&k)
+    }
+
+    /// The node joins the answered set, and best becomes the greater of best and the reply; on equal tags best keeps
+    /// its value. How the reply compared is how its tag stood to the old best. The mark is set by the first answer of
+    /// asking and cleared by any differing tag.
+    pub fn take_reply(&mut self, k: u32, tag: Tag, value: u32, compared: Compared) {
+        self.alike = self.answered.is_empty() || (self.alike && compared == Compared::Same);
+        self.answered.insert(k);
+        if compared == Compared::Higher {
+            (self.best, self.value) = (tag, value);
+        }
+    }
 }
 
 /// What a board is made under, and keeps (Paper 4).
@@ -102,16 +115,6 @@ pub struct Model {
 }
 
 #[derive(Clone, Copy, Debug, PartialEq, Eq)]
-pub enum Step {
-    BeginRead(u32),
-    BeginWrite(u32, u32),
-    Deliver(u32, u32),
-    NodeDown(u32),
-    ConsoleDown(u32),
-    NodeUp(u32),
-}
-
-#[derive(Clone, Copy, Debug, PartialEq, Eq)]
 pub enum Outcome {
     Done,
     Handed,
@@ -131,7 +134,7 @@ pub enum Compared {
 }
 
 impl Compared {
-    fn of<T: Ord>(tag: T, best: T) -> Compared {
+    pub fn of<T: Ord>(tag: T, best: T) -> Compared {
         match tag.cmp(&best) {
             Ordering::Less => Compared::Lower,
             Ordering::Equal => Compared::Same,
@@ -157,402 +160,307 @@ impl Answer {
     }
 }
 
-fn fresh_node() -> Node {
-    Node {
-        up: true,
-        tag: (0, 0),
-        value: 0,
+/// A no to a question gives the refusal with its number.
+fn question(number: u32, yes: bool) -> Result<(), u32> {
+    if yes {
+        Ok(())
+    } else {
+        Err(number)
     }
 }
 
-fn at_rest(state: State) -> Console {
-    Console {
-        state,
-        wanted: 0,
-        answered: BTreeSet::new(),
-        best: (0, 0),
-        value: 0,
-        alike: false,
-    }
-}
-
-impl Console {
-    /// Off in the telling, idle and down states and while nothing is answered, on at exactly one answer of asking.
-    fn is_mark_good(&self, fault: Fault) -> bool {
-        match (self.state, self.answered.len()) {
-            (State::Telling(_) | State::Idle | State::Down, _) | (State::Asking(_), 0) => !self.alike,
-            (State::Asking(_), 1) => self.alike || fault == ONE_UNMARKED,
-            (State::Asking(_), _) => true,
-        }
-    }
-
-    /// The node answers with this tag and value. The first answer sets the mark, a later one whose tag differs clears it.
-    fn take_reply(&mut self, k: u32, tag: Tag, value: u32, fault: Fault) -> Compared {
-        let compared = match fault {
-            REPLY_IN_32_BITS => Compared::of(in_32_bits(tag), in_32_bits(self.best)),
-            REPLY_TIMES_4 => Compared::of(times_4(tag), times_4(self.best)),
-            _ => Compared::of(tag, self.best),
-        };
-        let kept_by = |it| it == Compared::Same || (fault == MARK_KEPT_BY_LOWER && it == Compared::Lower);
-        if self.answered.is_empty() || fault == MARK_BY_ANY {
-            self.alike = true;
-        } else if !kept_by(compared) {
-            self.alike = false;
-        }
-        self.answered.insert(k);
-        if compared == Compared::Higher {
-            self.best = tag;
-            self.value = value;
-        }
-        if fault == NEW_BEST_COMPARED {
-            return Compared::of(tag, self.best);
-        }
-        compared
-    }
-}
-
+/// The board and when it is well formed.
 impl Model {
+    /// Under release 1, as a list of steps and a schedule make it.
     pub fn fresh(n: u32, m: u32) -> Result<Model, u32> {
         Model::fresh_under(n, m, Release::One)
     }
 
-    /// Step number 0 of a list makes release 1, whatever the release of this board.
-    pub fn fresh_in_list(&self, n: u32, m: u32, fault: Fault) -> Result<Model, u32> {
-        let release = if fault == LIST_KEEPS_RELEASE { self.release } else { Release::One };
-        Model::fresh_under(n, m, release)
-    }
-
+    /// All nodes are up with tag (0, 0) and value 0, all consoles idle, all cells empty.
     pub fn fresh_under(n: u32, m: u32, release: Release) -> Result<Model, u32> {
-        if !(1..=5).contains(&n) {
-            return Err(2);
-        }
-        if !(1..=8).contains(&m) {
-            return Err(3);
-        }
+        question(2, (1..=5).contains(&n))?;
+        question(3, (1..=8).contains(&m))?;
         Ok(Model {
             n,
             m,
             release,
-            nodes: (0..5).map(|k| (k, fresh_node())).collect(),
-            consoles: (0..8).map(|c| (c, at_rest(State::Idle))).collect(),
+            nodes: (0..5).map(|k| (k, Node::fresh())).collect(),
+            consoles: (0..8).map(|c| (c, Console::at_rest(State::Idle))).collect(),
             cells: BTreeMap::new(),
         })
     }
 
+    /// q is n / 2 rounded down, plus 1.
     pub fn majority(&self) -> usize {
         (self.n / 2 + 1) as usize
     }
 
-    pub fn is_well_formed(&self, fault: Fault) -> bool {
-        let most = if fault == NINE_CONSOLES { 9 } else { 8 };
-        if !(1..=5).contains(&self.n) || !(1..=most).contains(&self.m) {
-            return false;
-        }
-        let good = |tag: Tag, value: u32| tag.0 <= MAX_TS && tag.1 < u64::from(self.m) && (tag.0 != 0 || (tag.1 == 0 && value == 0));
-        let nodes = self
-            .nodes
-            .iter()
-            .all(|(k, x)| good(x.tag, x.value) && (*k < self.n || *x == fresh_node()));
-        let consoles = self.consoles.iter().all(|(c, x)| {
-            good(x.best, x.value) && self.is_console_good(x) && x.is_mark_good(fault) && (*c < self.m || x.state == State::Idle)
-        });
-        let cells = self.cells.iter().all(|((c, k), f)| {
-            *c < self.m
-                && *k < self.n
-                && match f {
-                    Frame::Reply(tag, value) | Frame::Put(tag, value) => good(*tag, *value),
-                    Frame::Ask | Frame::Ack => true,
-                }
-        });
-        nodes && consoles && cells
+    pub fn is_well_formed(&self) -> bool {
+        (1..=5).contains(&self.n)
+            && (1..=8).contains(&self.m)
+            && self.nodes.iter().all(|(k, x)| self.is_node_good(*k, x))
+            && self.consoles.iter().all(|(c, x)| self.is_console_good(*c, x))
+            && self.cells.iter().all(|((c, k), frame)| self.is_cell_good(*c, *k, frame))
     }
 
-    fn is_console_good(&self, x: &Console) -> bool {
-        match x.state {
-            // All fields but the mark, of which is_mark_good speaks.
-            State::Idle | State::Down => {
-                let alike = x.alike;
-                *x == Console { alike, ..at_rest(x.state) }
-            }
-            State::Asking(kind) | State::Telling(kind) => {
-                let none_yet = matches!(x.state, State::Asking(_)) && x.answered.is_empty();
-                x.answered.iter().all(|k| *k < self.n)
-                    && x.answered.len() < self.majority()
-                    && (!none_yet || (x.best == (0, 0) && x.value == 0))
-                    && (kind == Kind::Write || x.wanted == 0)
-            }
-        }
+    /// Every tag has ts at most 4,000,000,000 and a console number below m; a tag with ts 0 has console 0 and value 0.
+    fn is_tag_good(&self, tag: Tag, value: u32) -> bool {
+        let (ts, console) = tag;
+        ts <= MAX_TS && console < u64::from(self.m) && (ts != 0 || (console == 0 && value == 0))
     }
 
-    /// The answer and the next board, which is this one if the step is refused.
-    pub fn step(&self, step: Step, fault: Fault) -> (Answer, Model) {
-        if !self.is_well_formed(fault) {
-            return self.refused(1);
-        }
+    /// Nodes beyond n are up with tag (0, 0) and value 0.
+    fn is_node_good(&self, k: u32, x: &Node) -> bool {
+        self.is_tag_good(x.tag, x.value) && (k < self.n || *x == Node::fresh())
+    }
+
+    /// Cells beyond n and m are empty.
+    fn is_cell_good(&self, c: u32, k: u32, frame: &Frame) -> bool {
+        let is_tag_good = match frame {
+            Frame::Reply(tag, value) | Frame::Put(tag, value) => self.is_tag_good(*tag, *value),
+            Frame::Ask | Frame::Ack => true,
+        };
+        is_tag_good && c < self.m && k < self.n
+    }
+
+    /// Consoles beyond m are idle.
+    fn is_console_good(&self, c: u32, x: &Console) -> bool {
+        let is_state_good = match x.state {
+            State::Idle | State::Down => *x == Console::at_rest(x.state),
+            State::Asking(kind) => self.is_waiting_good(kind, x) && is_asking_good(x),
+            State::Telling(kind) => self.is_waiting_good(kind, x) && !x.alike,
+        };
+        is_state_good && self.is_tag_good(x.best, x.value) && (c < self.m || x.state == State::Idle)
+    }
+
+    /// A waiting console's answered set names only nodes below n and has fewer than q members; a read's wanted value is
+    /// 0.
+    fn is_waiting_good(&self, kind: Kind, x: &Console) -> bool {
+        x.answered.iter().all(|k| *k < self.n) && x.answered.len() < self.majority() && (kind == Kind::Write || x.wanted == 0)
+    }
+}
+
+/// An asking console with nothing answered has best tag (0, 0) and value 0. The mark is off while nothing is answered,
+/// on at exactly one answer of asking.
+fn is_asking_good(x: &Console) -> bool {
+    match x.answered.len() {
+        0 => x.best == (0, 0) && x.value == 0 && !x.alike,
+        1 => x.alike,
+        _ => true,
+    }
+}
+
+/// The questions put before each step.
+impl Model {
+    /// Asked in this order, as far as the step needs them. The first no gives the refusal with that number.
+    fn ask(&self, step: Step) -> Result<(), u32> {
+        question(1, self.is_well_formed())?;
+        let has_console = |c| question(4, c < self.m);
+        let has_node = |k| question(5, k < self.n);
+        let is_console_up = |c| question(6, self.consoles[&c].state != State::Down);
+        let is_console_idle = |c| question(7, self.consoles[&c].state == State::Idle);
+        let is_node_up = |k| question(9, self.nodes[&k].up);
+        let is_node_down = |k| question(14, !self.nodes[&k].up);
         match step {
-            Step::BeginRead(c) => self.begin(c, Kind::Read, 0, fault),
-            Step::BeginWrite(c, v) => self.begin(c, Kind::Write, v, fault),
-            Step::Deliver(c, k) => self.deliver(c, k, fault),
+            Step::BeginRead(c) | Step::BeginWrite(c, _) => {
+                has_console(c)?;
+                is_console_up(c)?;
+                is_console_idle(c)
+            }
+            Step::Deliver(c, k) => {
+                has_console(c)?;
+                has_node(k)?;
+                let frame = self.cells.get(&(c, k)).ok_or(8u32)?;
+                if self.is_withdrawn(c, frame) {
+                    return Ok(());
+                }
+                match frame {
+                    Frame::Ask | Frame::Put(..) => is_node_up(k),
+                    Frame::Reply(tag, value) => self.ask_last_ts(c, k, *tag, *value),
+                    Frame::Ack => Ok(()),
+                }
+            }
             Step::NodeDown(k) => {
-                if k >= self.n {
-                    return self.refused(5);
-                }
-                if !self.nodes[&k].up {
-                    return self.refused(9);
-                }
-                let mut next = self.clone();
-                next.nodes.get_mut(&k).unwrap().up = false;
-                next.after(Outcome::Done)
+                has_node(k)?;
+                is_node_up(k)
             }
             Step::ConsoleDown(c) => {
-                if c >= self.m {
-                    return self.refused(4);
-                }
-                if self.consoles[&c].state == State::Down {
-                    return self.refused(6);
-                }
-                let mut next = self.clone();
-                next.consoles.insert(c, at_rest(State::Down));
-                if fault == WITHDRAWN_AT_DOWN {
-                    next.cells.retain(|(d, _), frame| *d != c || !frame.goes_to_node());
-                }
-                next.after(Outcome::Done)
+                has_console(c)?;
+                is_console_up(c)
             }
-            Step::NodeUp(k) => self.node_up(k, fault),
+            Step::NodeUp(k) => {
+                has_node(k)?;
+                is_node_down(k)
+            }
         }
     }
 
-    /// A step on this board that is refused.
-    fn refused(&self, refusal: u32) -> (Answer, Model) {
-        (Answer::plain(Err(refusal)), self.clone())
+    /// Paper 6: an ask or a put of a down console. It is decided after question 8 and before question 9.
+    fn is_withdrawn(&self, c: u32, frame: &Frame) -> bool {
+        frame.goes_to_node() && self.consoles[&c].state == State::Down
     }
 
-    /// An accepted step that took no reply in and left this board.
-    fn after(self, outcome: Outcome) -> (Answer, Model) {
-        (Answer::plain(Ok(outcome)), self)
+    /// The console with this reply taken in, and how it compared; none if the reply is discarded.
+    pub fn heard(&self, c: u32, k: u32, tag: Tag, value: u32) -> Option<(Console, Compared)> {
+        let mut x = self.consoles[&c].clone();
+        let compared = Compared::of(tag, x.best);
+        x.awaits_reply(k).then(|| {
+            x.take_reply(k, tag, value, compared);
+            (x, compared)
+        })
     }
 
-    /// The node keeps its tag and value, and the cells stay as they are.
-    fn node_up(&self, k: u32, fault: Fault) -> (Answer, Model) {
-        let is_up = self.nodes.get(&k).is_some_and(|node| node.up);
-        if fault == UP_BEFORE_NUMBER && is_up {
-            return self.refused(14);
-        }
-        if k >= self.n {
-            return self.refused(5);
-        }
-        if fault != UP_TWICE && is_up {
-            return self.refused(14);
-        }
+    /// If this delivery turns a write, is best ts, with this reply taken in, below 4,000,000,000?
+    fn ask_last_ts(&self, c: u32, k: u32, tag: Tag, value: u32) -> Result<(), u32> {
+        let can_turn = self.heard(c, k, tag, value).is_none_or(|(x, _)| self.can_turn(&x));
+        question(10, can_turn)
+    }
+
+    /// Whether a console with a reply taken in may go on: it turns no write, or has a ts left for it.
+    pub fn can_turn(&self, x: &Console) -> bool {
+        let turns_write = x.state == State::Asking(Kind::Write) && x.answered.len() >= self.majority();
+        !turns_write || x.best.0 < MAX_TS
+    }
+}
+
+/// The steps.
+impl Model {
+    /// The answer and the next board. If the step is refused, the board comes back unchanged.
+    pub fn step(&self, step: Step) -> (Answer, Model) {
         let mut next = self.clone();
-        next.nodes.get_mut(&k).unwrap().up = true;
-        if fault == DISK_LOST {
-            next.nodes.insert(k, fresh_node());
-        }
-        if fault == WAITING_LOST {
-            next.cells.retain(|(_, j), frame| *j != k || !frame.goes_to_node());
-        }
-        next.after(Outcome::Done)
+        let answer = match self.ask(step) {
+            Ok(()) => next.take(step),
+            Err(refusal) => Answer::plain(Err(refusal)),
+        };
+        (answer, next)
     }
 
-    fn begin(&self, c: u32, kind: Kind, wanted: u32, fault: Fault) -> (Answer, Model) {
-        if c >= self.m {
-            return self.refused(4);
-        }
-        match self.consoles[&c].state {
-            State::Down => return self.refused(6),
-            State::Idle => {}
-            _ => return self.refused(7),
-        }
-        let mut next = self.clone();
-        next.consoles.insert(
-            c,
-            Console {
-                wanted,
-                ..at_rest(State::Asking(kind))
-            },
-        );
-        next.send_all(c, Frame::Ask);
-        if fault == RELEASE_LOST {
-            next.release = Release::One;
-        }
-        next.after(Outcome::Done)
+    /// A step that no question refuses.
+    fn take(&mut self, step: Step) -> Answer {
+        let outcome = match step {
+            Step::BeginRead(c) => self.begin(c, Kind::Read, 0),
+            Step::BeginWrite(c, v) => self.begin(c, Kind::Write, v),
+            Step::Deliver(c, k) => return self.deliver(c, k),
+            Step::NodeDown(k) => self.set_node_up(k, false),
+            Step::ConsoleDown(c) => self.console_down(c),
+            Step::NodeUp(k) => self.set_node_up(k, true),
+        };
+        Answer::plain(Ok(outcome))
     }
 
-    fn send_all(&mut self, c: u32, frame: Frame) {
+    /// The console becomes asking, with nothing answered and best (0, 0), 0. All n of its cells become ask, whatever
+    /// they held.
+    fn begin(&mut self, c: u32, kind: Kind, wanted: u32) -> Outcome {
+        let asking = Console::at_rest(State::Asking(kind));
+        self.consoles.insert(c, Console { wanted, ..asking });
+        self.send_all(c, Frame::Ask);
+        Outcome::Done
+    }
+
+    /// Down or up again, the node keeps tag and value.
+    fn set_node_up(&mut self, k: u32, up: bool) -> Outcome {
+        self.nodes.get_mut(&k).expect("it is there").up = up;
+        Outcome::Done
+    }
+
+    /// Down for good, its operation gone, its cells as they are.
+    fn console_down(&mut self, c: u32) -> Outcome {
+        self.consoles.insert(c, Console::at_rest(State::Down));
+        Outcome::Done
+    }
+
+    pub fn send_all(&mut self, c: u32, frame: Frame) {
         for k in 0..self.n {
             self.cells.insert((c, k), frame);
         }
     }
 
-    fn deliver(&self, c: u32, k: u32, fault: Fault) -> (Answer, Model) {
-        if c >= self.m {
-            return self.refused(4);
-        }
-        if k >= self.n {
-            return self.refused(5);
-        }
-        let Some(frame) = self.cells.get(&(c, k)).copied() else {
-            return self.refused(8);
-        };
-        let mut next = self.clone();
-        next.cells.remove(&(c, k));
-        if self.is_withdrawn(c, k, frame, fault) {
-            return next.withdraw(c, k, frame, fault);
-        }
-        match frame {
-            Frame::Ask | Frame::Put(..) if !self.nodes[&k].up => self.refused(9),
-            Frame::Ask => {
-                let node = &self.nodes[&k];
-                next.cells.insert((c, k), Frame::Reply(node.tag, node.value));
-                next.after(Outcome::Handed)
-            }
-            Frame::Put(tag, value) => {
-                next.nodes.get_mut(&k).unwrap().take_put(tag, value, fault);
-                next.cells.insert((c, k), Frame::Ack);
-                next.after(Outcome::Handed)
-            }
-            Frame::Reply(tag, value) => self.hear_reply(next, c, k, (tag, value), fault),
-            Frame::Ack => next.hear_ack(c, k, fault),
-        }
-    }
-
-    /// Paper 6: whether this frame is an ask or a put of a down console. Whether the node is up is not asked.
-    fn is_withdrawn(&self, c: u32, k: u32, frame: Frame, fault: Fault) -> bool {
-        let of_kind = match frame {
-            Frame::Ask => fault != ASK_NOT_WITHDRAWN,
-            Frame::Put(..) => fault != PUT_NOT_WITHDRAWN,
-            Frame::Reply(..) | Frame::Ack => false,
-        };
-        let of_state = match self.consoles[&c].state {
-            State::Down => true,
-            State::Idle => fault == WITHDRAWN_OF_IDLE,
-            State::Asking(_) | State::Telling(_) => false,
-        };
-        of_kind && of_state && (fault != WITHDRAWN_AFTER_9 || self.nodes[&k].up)
-    }
-
-    /// Paper 6: the frame is gone from this board's cell, and nothing else changes.
-    fn withdraw(mut self, c: u32, k: u32, frame: Frame, fault: Fault) -> (Answer, Model) {
-        match (fault, frame) {
-            (WITHDRAWN_TAKEN, Frame::Put(tag, value)) => self.nodes.get_mut(&k).unwrap().take_put(tag, value, fault),
-            (WITHDRAWN_BY_ROW, _) => self.cells.retain(|(d, _), _| *d != c),
-            (WITHDRAWN_STAYS, _) => drop(self.cells.insert((c, k), frame)),
-            (WITHDRAWN_HANDED, _) => return self.after(Outcome::Handed),
-            _ => {}
-        }
-        self.after(Outcome::Discarded)
-    }
-
-    /// The console hears a reply that is gone from the next board's cell.
-    fn hear_reply(&self, mut next: Model, c: u32, k: u32, (tag, value): (Tag, u32), fault: Fault) -> (Answer, Model) {
-        let x = next.consoles.get_mut(&c).unwrap();
-        let kind = match x.state {
-            State::Asking(kind) if !x.answered.contains(&k) => kind,
-            _ if fault == DISCARDED_COMPARED => {
-                let (outcome, compared) = (Ok(Outcome::Discarded), Compared::of(tag, x.best));
-                return (Answer { outcome, compared }, next);
-            }
-            _ => return next.after(Outcome::Discarded),
-        };
-        let compared = x.take_reply(k, tag, value, fault);
-        let answers = x.answered.len();
-        let short = usize::from(fault == EARLY_ONE_SHORT);
-        let outcome = if answers + short >= self.majority() && self.is_early(x, c, kind, fault) {
-            next.finish_early(c, fault)
-        } else if answers < self.majority() {
-            Ok(Outcome::Heard)
-        } else {
-            next.turn(c, kind, fault)
-        };
-        match outcome {
-            Ok(Outcome::Finished(..)) if fault == EARLY_UNCOMPARED => (Answer::plain(outcome), next),
-            Err(refusal) if fault != REFUSED_COMPARED => self.refused(refusal),
-            Err(_) => (Answer { outcome, compared }, self.clone()),
-            Ok(_) => (Answer { outcome, compared }, next),
-        }
-    }
-
-    /// Paper 4: whether the console, as this reply left it, may finish without telling. The mark is the one after the reply.
-    fn is_early(&self, x: &Console, c: u32, kind: Kind, fault: Fault) -> bool {
-        let alike = match fault {
-            EARLY_UNALIKE => true,
-            EARLY_BY_OLD_MARK => self.consoles[&c].alike,
-            _ => x.alike,
-        };
-        (self.release == Release::Two || fault == EARLY_UNDER_ONE) && (kind == Kind::Read || fault == EARLY_WRITE) && alike
-    }
-
-    /// Paper 4: the console has heard a majority, all alike. It finishes with its best, and its other cells stay as they are.
-    fn finish_early(&mut self, c: u32, fault: Fault) -> Result<Outcome, u32> {
-        let x = self.consoles.get_mut(&c).unwrap();
-        let (best, value) = (x.best, x.value);
-        if fault == EARLY_ASKS_10 && best.0 >= MAX_TS {
-            return Err(10);
-        }
-        let idle = at_rest(State::Idle);
-        *x = match fault {
-            EARLY_STAYS_TELLING => Console {
-                best,
-                value,
-                ..at_rest(State::Telling(Kind::Read))
+    /// Takes the frame in that cell.
+    fn deliver(&mut self, c: u32, k: u32) -> Answer {
+        let frame = self.cells.remove(&(c, k)).expect("question 8 was asked");
+        let outcome = match frame {
+            _ if self.is_withdrawn(c, &frame) => Outcome::Discarded,
+            Frame::Ask => self.hand_ask(c, k),
+            Frame::Put(tag, value) => self.hand_put(c, k, tag, value),
+            Frame::Reply(tag, value) => match self.heard(c, k, tag, value) {
+                Some((x, compared)) => {
+                    let outcome = Ok(self.hear_reply(c, x));
+                    return Answer { outcome, compared };
+                }
+                None => Outcome::Discarded,
             },
-            EARLY_KEEPS_BEST => Console { best, value, ..idle },
-            EARLY_KEEPS_MARK => Console { alike: true, ..idle },
-            _ => idle,
+            Frame::Ack => self.hear_ack(c, k),
         };
-        match fault {
-            EARLY_CLEARS_CELLS => self.cells.retain(|(d, _), _| *d != c),
-            EARLY_SENDS_PUTS => self.send_all(c, Frame::Put(best, value)),
-            _ => {}
-        }
-        Ok(Outcome::Finished(best, value))
+        Answer::plain(Ok(outcome))
     }
 
-    /// The console has heard a majority, and tells.
-    fn turn(&mut self, c: u32, kind: Kind, fault: Fault) -> Result<Outcome, u32> {
-        let x = self.consoles.get_mut(&c).unwrap();
-        if kind == Kind::Write {
-            if x.best.0 >= MAX_TS {
-                return Err(10);
-            }
-            x.best = (x.best.0 + 1, u64::from(c));
-            x.value = x.wanted;
+    /// The cell becomes reply with the node's tag and value.
+    fn hand_ask(&mut self, c: u32, k: u32) -> Outcome {
+        let node = &self.nodes[&k];
+        self.cells.insert((c, k), Frame::Reply(node.tag, node.value));
+        Outcome::Handed
+    }
+
+    /// The node keeps the greater tag, with its value. The cell becomes ack.
+    fn hand_put(&mut self, c: u32, k: u32, tag: Tag, value: u32) -> Outcome {
+        self.nodes.get_mut(&k).expect("question 5 was asked").take_put(tag, value);
+        self.cells.insert((c, k), Frame::Ack);
+        Outcome::Handed
+    }
+
+    /// The console with a reply taken in. With fewer than q answers the outcome is heard. At q answers a read finishes
+    /// from release 2 on if all carry the same tag (Paper 4), and otherwise the console becomes telling.
+    pub fn hear_reply(&mut self, c: u32, x: Console) -> Outcome {
+        let is_quiet_read = x.state == State::Asking(Kind::Read) && x.alike;
+        let answers = x.answered.len();
+        self.consoles.insert(c, x);
+        if answers < self.majority() {
+            Outcome::Heard
+        } else if self.release == Release::Two && is_quiet_read {
+            self.finish(c)
+        } else {
+            self.turn(c)
         }
-        if fault == NEXT_AFTER_READ && kind == Kind::Read {
-            x.best.0 += 1;
+    }
+
+    /// The console becomes telling: a read keeps best; a write takes the tag (best ts + 1, own number) and the wanted
+    /// value as its best. The answered set empties, the kind and wanted value stay, and all n cells become put with
+    /// that tag and value.
+    fn turn(&mut self, c: u32) -> Outcome {
+        let x = self.consoles.get_mut(&c).expect("question 4 was asked");
+        if x.state == State::Asking(Kind::Write) {
+            (x.best, x.value) = ((x.best.0 + 1, u64::from(c)), x.wanted);
+            x.state = State::Telling(Kind::Write);
+        } else {
+            x.state = State::Telling(Kind::Read);
         }
-        if fault == READ_UNTOLD && kind == Kind::Read {
-            let (best, value) = (x.best, x.value);
-            *x = at_rest(State::Idle);
-            return Ok(Outcome::Finished(best, value));
-        }
-        if fault != SET_KEPT {
-            x.answered.clear();
-        }
-        if fault != MARK_KEPT_AT_TURN {
-            x.alike = false;
-        }
-        x.state = State::Telling(kind);
+        x.answered.clear();
+        x.alike = false;
         let put = Frame::Put(x.best, x.value);
         self.send_all(c, put);
-        Ok(Outcome::Turned)
+        Outcome::Turned
     }
 
-    fn hear_ack(mut self, c: u32, k: u32, fault: Fault) -> (Answer, Model) {
+    /// At a telling console that has no answer yet from this node it joins the set. Below q: heard.
+    fn hear_ack(&mut self, c: u32, k: u32) -> Outcome {
         let q = self.majority();
-        let x = self.consoles.get_mut(&c).unwrap();
-        if !matches!(x.state, State::Telling(_)) || !x.answered.insert(k) {
-            return self.after(Outcome::Discarded);
+        let x = self.consoles.get_mut(&c).expect("question 4 was asked");
+        if !x.awaits_ack(k) {
+            return Outcome::Discarded;
         }
+        x.answered.insert(k);
         if x.answered.len() < q {
-            return self.after(Outcome::Heard);
+            Outcome::Heard
+        } else {
+            self.finish(c)
         }
-        let finished = Outcome::Finished(x.best, x.value);
-        *x = at_rest(State::Idle);
-        if fault == CELLS_CLEARED {
-            self.cells.retain(|(d, _), _| *d != c);
-        }
-        self.after(finished)
+    }
+
+    /// The console becomes idle and its own fields clear; finished with the best tag and value it had. Its other cells
+    /// keep their frames.
+    pub fn finish(&mut self, c: u32) -> Outcome {
+        let idle = Console::at_rest(State::Idle);
+        let x = self.consoles.insert(c, idle).expect("question 4 was asked");
+        Outcome::Finished(x.best, x.value)
     }
 }

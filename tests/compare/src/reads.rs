@@ -1,17 +1,17 @@
 //! The accepted deliveries of finished reads under release 1 and 2, on each size, in quiet and in busy runs.
 //!
-//! - Quiet: one begin in eight is a write's, and nothing else is open while a write is. Frames that a finished write left in
-//!   flight, puts among them, may still be there.
+//! - Quiet: one begin in eight is a write's, and nothing else is open while a write is. Frames that a finished write
+//!   left in flight, puts among them, may still be there.
 //! - Busy: one begin in two is a write's, whatever is open.
 //!
-//! In both the consoles begin in turn, each some time after it is idle, frames are delivered in a drawn order, and nothing goes
-//! down. Both releases have the same begins in the same order, and a run goes on until all is finished and delivered.
-use crate::chance::Chance;
-use crate::faults::Fault;
-use crate::model::{Kind, Model, Release, State, Step, RELEASES};
+//! In both the consoles begin in turn, each some time after it is idle, frames are delivered in a drawn order, and
+//! nothing goes down. Both releases have the same begins in the same order, and a run goes on until all is finished and
+//! delivered.
+use crate::beside::{both, differ, made, Agreed};
+use crate::faults::Faulty;
+use crate::model::{Kind, Model, Release, State, Step};
 use crate::rules::{Counts, Run};
-use crate::{both, made};
-use std::process::exit;
+use common::Chance;
 
 /// The operations of a run.
 const OPERATIONS: u32 = 1000;
@@ -56,9 +56,9 @@ fn some_delivery(board: &Model, chance: &mut Chance) -> Option<Step> {
     Some(Step::Deliver(*c, *k))
 }
 
-fn run(n: u32, m: u32, release: Release, load: Load, begins: &[Begin], chance: &mut Chance, fault: Fault) -> Counts {
+fn run(n: u32, m: u32, release: Release, load: Load, begins: &[Begin], chance: &mut Chance, faulty: Faulty) -> Agreed<Counts> {
     let (mut board, mut model) = made(n, m, release);
-    let (mut held, mut counts) = (Run::fresh(n, fault), Counts::default());
+    let (mut held, mut counts) = (Run::fresh(faulty.rules(n)), Counts::default());
     let mut begins = begins.iter().peekable();
     while begins.peek().is_some() || !model.cells.is_empty() {
         let step = match begins.next_if(|begin| load.allows(**begin, &model) && chance.one_in(4)) {
@@ -70,10 +70,10 @@ fn run(n: u32, m: u32, release: Release, load: Load, begins: &[Begin], chance: &
             continue;
         };
         let before = board.clone();
-        let answer = both(&mut board, &mut model, step, fault);
-        held.take(step, answer, &before, &board, &mut counts);
+        let answer = both(&mut board, &mut model, step, faulty)?;
+        held.take(step, answer, &before, &board, &mut counts)?;
     }
-    counts
+    Ok(counts)
 }
 
 /// What was seen on one size, under each release.
@@ -90,12 +90,15 @@ pub struct Reads {
 }
 
 impl Reads {
-    pub fn run(&mut self, n: u32, m: u32, chance: &mut Chance, fault: Fault) {
-        let [quiet, busy] = [Load::Quiet, Load::Busy].map(|load| {
+    pub fn run(&mut self, n: u32, m: u32, chance: &mut Chance, faulty: Faulty) -> Agreed {
+        let mut under_both = |load: Load| -> Agreed<[Counts; 2]> {
             let (begins, seed) = (load.begins(m, chance), chance.next());
-            RELEASES.map(|release| run(n, m, release, load, &begins, &mut Chance(seed), fault))
-        });
+            let under = |release| run(n, m, release, load, &begins, &mut Chance(seed), faulty);
+            Ok([under(Release::One)?, under(Release::Two)?])
+        };
+        let (quiet, busy) = (under_both(Load::Quiet)?, under_both(Load::Busy)?);
         self.sizes.push(Size { n, m, quiet, busy });
+        Ok(())
     }
 
     pub fn print(&self) {
@@ -113,10 +116,10 @@ impl Reads {
         }
     }
 
-    /// Ends the program unless all operations finished and the reads are as Paper 4 has them: under release 1 none finishes early;
-    /// under release 2 some of a quiet board's do, and all together take less than under release 1, and some of a busy one's tell,
-    /// if there is more than one node and console.
-    pub fn hold(&self) {
+    /// Whether all operations finished and the reads are as Paper 4 has them: under release 1 none finishes early;
+    /// under release 2 some of a quiet board's do, and all together take less than under release 1, and some of a busy
+    /// one's tell, if there is more than one node and console.
+    pub fn hold(&self) -> Agreed {
         for Size { n, m, quiet, busy } in &self.sizes {
             let is_whole = |counts: &Counts| counts.finished.operations == u64::from(OPERATIONS);
             let never_early = |counts: &Counts| counts.early.operations == 0;
@@ -134,9 +137,9 @@ impl Reads {
             } else {
                 continue;
             };
-            println!("n = {n}, m = {m}: {wrong}");
-            exit(1);
+            return differ(&[format!("n = {n}, m = {m}: {wrong}")]);
         }
+        Ok(())
     }
 }
 

@@ -1,16 +1,16 @@
-//! The release in the words (Paper 4): boards on which a read lacks one reply, with the same tag as all before it, and on which
-//! the release is changed and nothing else. Whatever the number, the board is well formed; the reply finishes the read where the
-//! number is 2, and turns it where it is any other.
-use crate::chance::Chance;
-use crate::faults::Fault;
+//! The release in the words (Paper 4): boards on which a read lacks one reply, with the same tag as all before it, and
+//! on which the release is changed and nothing else. Whatever the number, the board is well formed; the reply finishes
+//! the read where the number is 2, and turns it where it is any other.
+use crate::beside::{both, differ, Agreed};
+use crate::damaged::some_board;
+use crate::faults::Faulty;
 use crate::model::{Compared, Outcome, Release, Step};
 use crate::words::{self, Words, RELEASE};
-use crate::{both, some_board};
+use common::Chance;
 use hatukeno::Board;
-use std::process::exit;
 
-/// On each size boards are drawn, fewer than STEPS into a run, until there are OF_EACH; at most DRAWN, and if that does not do the
-/// program ends.
+/// On each size boards are drawn, fewer than STEPS into a run, until there are OF_EACH; at most DRAWN, and if that does
+/// not do it is a difference.
 const STEPS: u32 = 300;
 const OF_EACH: usize = 10;
 const DRAWN: u32 = 10_000;
@@ -25,19 +25,19 @@ pub struct Releases {
 }
 
 impl Releases {
-    pub fn draw(&mut self, n: u32, m: u32, chance: &mut Chance, fault: Fault) {
+    pub fn draw(&mut self, n: u32, m: u32, chance: &mut Chance, faulty: Faulty) -> Agreed {
         let drawn = (0..DRAWN).map(|_| some_board(n, m, STEPS, chance));
         let boards = drawn.filter_map(|words| Some((words, last_alike_reply(&words)?)));
         let mut here = 0;
         for (words, (c, k)) in boards.take(OF_EACH) {
-            try_board(words, c, k, fault);
+            try_board(words, c, k, faulty)?;
             here += 1;
         }
         if here < OF_EACH {
-            println!("n = {n}, m = {m}: too few boards for the release, {here}");
-            exit(1);
+            return differ(&[format!("n = {n}, m = {m}: too few boards for the release, {here}")]);
         }
         self.tried += here;
+        Ok(())
     }
 
     pub fn print(&self) {
@@ -51,32 +51,32 @@ impl Releases {
 
 /// A console and a node whose reply would finish a read early under release 2.
 fn last_alike_reply(words: &Words) -> Option<(u32, u32)> {
-    let mut model = words::read(words, 0);
+    let mut model = words::read(words);
     model.release = Release::Two;
     let mut pairs = (0..model.m).flat_map(|c| (0..model.n).map(move |k| (c, k)));
     pairs.find(|(c, k)| {
-        let (answer, _) = model.step(Step::Deliver(*c, *k), 0);
+        let (answer, _) = model.step(Step::Deliver(*c, *k));
         matches!(answer.outcome, Ok(Outcome::Finished(..))) && answer.compared != Compared::None
     })
 }
 
-fn try_board(mut words: Words, c: u32, k: u32, fault: Fault) {
+fn try_board(mut words: Words, c: u32, k: u32, faulty: Faulty) -> Agreed {
     for number in NUMBERS {
         words[RELEASE] = number;
-        let model = words::read(&words, fault);
+        let model = faulty.read(&words);
         for step in [Step::NodeDown(k), Step::NodeUp(k), Step::ConsoleDown(c)] {
-            both(&mut Board::from_words(words), &mut model.clone(), step, fault);
+            both(&mut Board::from_words(words), &mut model.clone(), step, faulty)?;
         }
         let mut board = Board::from_words(words);
-        let answer = both(&mut board, &mut model.clone(), Step::Deliver(c, k), fault);
+        let answer = both(&mut board, &mut model.clone(), Step::Deliver(c, k), faulty)?;
         let is_early = matches!(answer.outcome, Ok(Outcome::Finished(..)));
         let release = if number == 2 { 2 } else { 1 };
         if is_early != (release == 2) || board.words()[RELEASE] != release {
-            println!(
-                "the release is {number}: the reply answered {answer:?}, the words are {:?}",
-                board.words()
-            );
-            exit(1);
+            let words = board.words();
+            return differ(&[format!(
+                "the release is {number}: the reply answered {answer:?}, the words are {words:?}"
+            )]);
         }
     }
+    Ok(())
 }

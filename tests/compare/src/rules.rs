@@ -1,13 +1,13 @@
-//! Demand 3's three rules, held to a run of the library by its steps and their answers alone: the progress rule with Paper 2's
-//! majority after each accepted step, the delivery bound at each delivery, the freshness rule at each finish. They are the same
-//! under both releases; an early finish (Paper 4) is held to half the bound besides, since it takes one phase. And what the runs
-//! show, counted: finishes, node ups, how replies compared and what they did to the mark, and frames that were withdrawn.
-use crate::faults::{Fault, BOUND_ONE_LESS, EARLY_BOUND_ONE_LESS, MAJORITY_ONE_LESS, READS_HIGHER};
-use crate::model::{Answer, Compared, Frame, Outcome, Step, Tag};
-use crate::words::{place_of_mark, read};
+//! Demand 3's three rules, held to a run of the library by its steps and their answers alone: the progress rule with
+//! Paper 2's majority after each accepted step, the delivery bound at each delivery, the freshness rule at each finish.
+//! They are the same under both releases; an early finish (Paper 4) is held to half the bound besides, since it takes
+//! one phase. And what the runs show, counted: finishes, node ups, how replies compared and what they did to the mark,
+//! and frames that were withdrawn.
+use crate::beside::{differ, Agreed};
+use crate::model::{Answer, Compared, Frame, Kind, Outcome, Step, Tag};
+use crate::words::{mark, read};
 use hatukeno::{Board, Refusal};
 use std::collections::{BTreeMap, BTreeSet};
-use std::process::exit;
 
 /// Finished operations, and their accepted deliveries: of all together, and the most of one.
 #[derive(Clone, Copy, Default)]
@@ -36,8 +36,8 @@ pub struct Counts {
     pub finished: Finished,
     pub reads: Finished,
     pub early: Finished,
-    /// Accepted node ups, those of them with a frame waiting for the node, and how many times a console with no frame to deliver
-    /// had one again after one of them.
+    /// Accepted node ups, those of them with a frame waiting for the node, and how many times a console with no frame
+    /// to deliver had one again after one of them.
     pub node_ups: u64,
     pub waited_for: u64,
     pub again: u64,
@@ -47,14 +47,15 @@ pub struct Counts {
     pub lower: u64,
     pub same: u64,
     pub higher: u64,
-    /// Replies taken in that set the mark, kept it on, cleared it by a differing tag, by the turn, and by an early finish.
+    /// Replies taken in that set the mark, kept it on, cleared it by a differing tag, by the turn, and by an early
+    /// finish.
     pub set: u64,
     pub kept: u64,
     pub cleared: u64,
     pub turned: u64,
     pub ended: u64,
-    /// Asks and puts that were withdrawn (Paper 6), those of both to a node that was down, and puts that their node, which was up,
-    /// would have taken.
+    /// Asks and puts that were withdrawn (Paper 6), those of both to a node that was down, and puts that their node,
+    /// which was up, would have taken.
     pub asks_withdrawn: u64,
     pub puts_withdrawn: u64,
     pub withdrawn_from_down: u64,
@@ -64,7 +65,7 @@ pub struct Counts {
 impl Counts {
     /// A discarded delivery of this console and node. Of asks and puts it is those of down consoles that are discarded.
     fn add_discarded(&mut self, c: u32, k: u32, from: &Board) {
-        let from = read(from.words(), 0);
+        let from = read(from.words());
         let (frame, node) = (from.cells[&(c, k)], &from.nodes[&k]);
         match frame {
             Frame::Ask => self.asks_withdrawn += 1,
@@ -88,7 +89,7 @@ impl Counts {
             Compared::Same => self.same += 1,
             Compared::Higher => self.higher += 1,
         }
-        let is_on = |board: &Board| board.words()[place_of_mark(c)] != 0;
+        let is_on = |board: &Board| board.words()[mark(c)] != 0;
         match (is_on(from), is_on(to), answer.outcome) {
             (false, true, _) => self.set += 1,
             (true, true, _) => self.kept += 1,
@@ -100,53 +101,79 @@ impl Counts {
     }
 }
 
+/// The three rules for n nodes.
+pub struct Rules {
+    pub n: u32,
+    /// Progress: so many machines must be up.
+    pub up: u32,
+    /// The most accepted deliveries of an operation, and of a read that finishes early.
+    pub deliveries: u64,
+    pub early_deliveries: u64,
+    /// Freshness: whether an operation of this kind must have a higher tag than those finished before it, or else one
+    /// no lower.
+    pub rises: fn(Kind) -> bool,
+}
+
+impl Rules {
+    pub fn of(n: u32) -> Rules {
+        let majority = n / 2 + 1;
+        let one_phase = u64::from(n + majority);
+        Rules {
+            n,
+            up: majority,
+            deliveries: 2 * one_phase,
+            early_deliveries: one_phase,
+            rises: |kind| kind == Kind::Write,
+        }
+    }
+}
+
 /// An open operation: the accepted deliveries since its begin, and the highest final tag before it.
 struct Open {
-    wrote: bool,
+    kind: Kind,
     taken: u64,
     before: Option<Tag>,
 }
 
 /// A run so far: which machines are down, the open operation of each console that has one, and the highest final tag.
 pub struct Run {
-    n: u32,
-    fault: Fault,
+    rules: Rules,
     down: BTreeSet<u32>,
     open: BTreeMap<u32, Open>,
     highest: Option<Tag>,
 }
 
 impl Run {
-    pub fn fresh(n: u32, fault: Fault) -> Run {
+    pub fn fresh(rules: Rules) -> Run {
         Run {
-            n,
-            fault,
+            rules,
             down: BTreeSet::new(),
             open: BTreeMap::new(),
             highest: None,
         }
     }
 
-    /// Takes in a step with its answer, from one board of the library to the next. If a rule is broken, that ends the program.
-    pub fn take(&mut self, step: Step, answer: Answer, from: &Board, to: &Board, counts: &mut Counts) {
+    /// Takes in a step with its answer, from one board of the library to the next.
+    pub fn take(&mut self, step: Step, answer: Answer, from: &Board, to: &Board, counts: &mut Counts) -> Agreed {
         if let Step::Deliver(c, k) = step {
             counts.add_delivery(c, k, answer, from, to);
         }
         match (step, answer.outcome) {
-            (_, Ok(_)) => self.accept(step, answer, from, to, counts),
+            (_, Ok(_)) => self.accept(step, answer, from, to, counts)?,
             (Step::NodeDown(_), Err(9)) | (Step::NodeUp(_), Err(14)) => counts.twice += 1,
             _ => {}
         }
+        Ok(())
     }
 
-    fn accept(&mut self, step: Step, answer: Answer, from: &Board, to: &Board, counts: &mut Counts) {
+    fn accept(&mut self, step: Step, answer: Answer, from: &Board, to: &Board, counts: &mut Counts) -> Agreed {
         match step {
-            Step::BeginRead(c) => self.begin(c, false),
-            Step::BeginWrite(c, _) => self.begin(c, true),
+            Step::BeginRead(c) => self.begin(c, Kind::Read),
+            Step::BeginWrite(c, _) => self.begin(c, Kind::Write),
             Step::ConsoleDown(c) => {
                 self.open.remove(&c);
             }
-            Step::Deliver(c, _) => self.deliver(c, answer, counts),
+            Step::Deliver(c, _) => self.deliver(c, answer, counts)?,
             Step::NodeDown(k) => {
                 self.down.insert(k);
             }
@@ -157,64 +184,66 @@ impl Run {
                 counts.again += self.stuck(from).filter(|c| self.has_frame(*c, to)).count() as u64;
             }
         }
-        self.hold_progress(to);
+        self.hold_progress(to)
     }
 
-    fn begin(&mut self, c: u32, wrote: bool) {
+    fn begin(&mut self, c: u32, kind: Kind) {
         let before = self.highest;
-        self.open.insert(c, Open { wrote, taken: 0, before });
+        self.open.insert(c, Open { kind, taken: 0, before });
     }
 
-    fn deliver(&mut self, c: u32, answer: Answer, counts: &mut Counts) {
-        let one_phase = u64::from(self.n + self.majority());
+    fn deliver(&mut self, c: u32, answer: Answer, counts: &mut Counts) -> Agreed {
         let Some(operation) = self.open.get_mut(&c) else {
-            return;
+            return Ok(());
         };
         operation.taken += 1;
-        let (taken, wrote) = (operation.taken, operation.wrote);
-        self.hold_bound(taken, 2 * one_phase - u64::from(self.fault == BOUND_ONE_LESS));
-        if let Ok(Outcome::Finished(tag, _)) = answer.outcome {
-            counts.finished.add(taken);
-            if !wrote {
-                counts.reads.add(taken);
-            }
-            if answer.compared != Compared::None {
-                counts.early.add(taken);
-                self.hold_bound(taken, one_phase - u64::from(self.fault == EARLY_BOUND_ONE_LESS));
-            }
-            self.finish(c, tag);
-        }
-    }
-
-    fn hold_bound(&self, taken: u64, most: u64) {
-        if taken > most {
-            println!("n = {}: an operation took {taken} deliveries, more than {most}", self.n);
-            exit(1);
-        }
-    }
-
-    fn finish(&mut self, c: u32, tag: Tag) {
-        let Some(operation) = self.open.remove(&c) else {
-            return;
+        let (taken, kind) = (operation.taken, operation.kind);
+        self.hold_bound(taken, self.rules.deliveries)?;
+        let Ok(Outcome::Finished(tag, _)) = answer.outcome else {
+            return Ok(());
         };
-        let higher = operation.wrote || self.fault == READS_HIGHER;
-        if Some(tag) < operation.before || higher && Some(tag) == operation.before {
-            println!("console {c} finished with tag {tag:?} after {:?} was finished", operation.before);
-            exit(1);
+        counts.finished.add(taken);
+        if kind == Kind::Read {
+            counts.reads.add(taken);
+        }
+        if answer.compared != Compared::None {
+            counts.early.add(taken);
+            self.hold_bound(taken, self.rules.early_deliveries)?;
+        }
+        self.finish(c, tag)
+    }
+
+    fn hold_bound(&self, taken: u64, most: u64) -> Agreed {
+        if taken > most {
+            let n = self.rules.n;
+            return differ(&[format!("n = {n}: an operation took {taken} deliveries, more than {most}")]);
+        }
+        Ok(())
+    }
+
+    fn finish(&mut self, c: u32, tag: Tag) -> Agreed {
+        let Some(Open { kind, before, .. }) = self.open.remove(&c) else {
+            return Ok(());
+        };
+        if Some(tag) < before || (self.rules.rises)(kind) && Some(tag) == before {
+            return differ(&[format!("console {c} finished with tag {tag:?} after {before:?} was finished")]);
         }
         self.highest = self.highest.max(Some(tag));
+        Ok(())
     }
 
-    fn hold_progress(&self, board: &Board) {
-        let up = self.n - self.down.len() as u32;
-        if up + u32::from(self.fault == MAJORITY_ONE_LESS) < self.majority() {
-            return;
+    fn hold_progress(&self, board: &Board) -> Agreed {
+        let up = self.rules.n - self.down.len() as u32;
+        if up < self.rules.up {
+            return Ok(());
         }
-        if let Some(c) = self.stuck(board).next() {
-            println!("console {c} has an operation open and no frame that can be delivered");
-            println!("of {} machines those that are down are {:?}", self.n, self.down);
-            println!("the words of the board are {:?}", board.words());
-            exit(1);
+        match self.stuck(board).next() {
+            Some(c) => differ(&[
+                format!("console {c} has an operation open and no frame that can be delivered"),
+                format!("of {} machines those that are down are {:?}", self.rules.n, self.down),
+                format!("the words of the board are {:?}", board.words()),
+            ]),
+            None => Ok(()),
         }
     }
 
@@ -224,11 +253,7 @@ impl Run {
     }
 
     fn has_frame(&self, c: u32, board: &Board) -> bool {
-        (0..self.n).any(|k| board.clone().deliver(c, k).is_ok())
-    }
-
-    fn majority(&self) -> u32 {
-        self.n / 2 + 1
+        (0..self.rules.n).any(|k| board.clone().deliver(c, k).is_ok())
     }
 }
 

@@ -1,9 +1,10 @@
 //! Puts schedules to the program and to the model, and stops at the first difference.
-use crate::chance::Chance;
+use crate::beside::{differ, Agreed};
 use crate::drawing::{edges, Drawing};
-use crate::faults::Fault;
+use crate::faults::Faulty;
 use crate::model::Outcome;
-use crate::schedule::{answers, lines, written, Answer};
+use crate::schedule::{lines, written, Answer};
+use common::Chance;
 use std::collections::BTreeMap;
 use std::io::{self, Read, Write};
 use std::path::Path;
@@ -21,15 +22,15 @@ const ROUNDS: u64 = 32;
 const MANY: u64 = 70_000;
 
 /// Reads standard input as the program does and writes what the model answers.
-pub fn answer(fault: Fault) -> io::Result<()> {
+pub fn answer(faulty: Faulty) -> io::Result<()> {
     let mut input = Vec::new();
     io::stdin().read_to_end(&mut input)?;
-    io::stdout().write_all(&written(&answers(&input, fault)))
+    io::stdout().write_all(&written(&faulty.answers(&input)))
 }
 
 /// How many lines there were, by their answers.
 #[derive(Default)]
-struct Counts {
+pub struct Counts {
     schedules: u64,
     lines: u64,
     finished: u64,
@@ -49,7 +50,7 @@ impl Counts {
         }
     }
 
-    fn print(&self, seed: u64) {
+    pub fn print(&self, seed: u64) {
         let refused: u64 = self.refused.values().sum();
         let accepted = self.lines - refused;
         println!("seed {seed}: {} lines in {} schedules agree", self.lines, self.schedules);
@@ -59,54 +60,79 @@ impl Counts {
     }
 }
 
-/// The edges, then by chance until so many lines are answered. In each round one schedule is mostly good, one is half damaged,
-/// and the tiny ones are mostly ends of the input.
-pub fn compare(rack: &Path, wanted: u64, seed: u64, fault: Fault) {
-    let mut chance = Chance(seed);
-    let mut counts = Counts::default();
+/// The edges, then by chance until so many lines are answered.
+pub fn compare(rack: &Path, wanted: u64, seed: u64, faulty: Faulty) -> Agreed<Counts> {
+    let mut drawn = Drawn {
+        rack,
+        seed,
+        faulty,
+        chance: Chance(seed),
+        counts: Counts::default(),
+    };
     for schedule in edges() {
-        both(rack, &schedule, seed, fault, &mut chance, &mut counts);
+        drawn.put(&schedule)?;
     }
     for round in 0.. {
-        let left = wanted.saturating_sub(counts.lines);
+        let left = wanted.saturating_sub(drawn.counts.lines);
         if left == 0 {
             break;
         }
+        drawn.round(round, left)?;
+    }
+    Ok(drawn.counts)
+}
+
+/// The schedules so far, and what they are put to.
+struct Drawn<'a> {
+    rack: &'a Path,
+    seed: u64,
+    faulty: Faulty,
+    chance: Chance,
+    counts: Counts,
+}
+
+impl Drawn<'_> {
+    /// One schedule is mostly good, one is half damaged, and the tiny ones are mostly ends of the input.
+    fn round(&mut self, round: u64, left: u64) -> Agreed {
         let good = if round % ROUNDS == 1 {
             MANY
         } else {
-            500 + u64::from(chance.below(3500))
+            500 + u64::from(self.chance.below(3500))
         };
-        let schedule = Drawing::new(&mut chance, 60).schedule(good.min(left));
-        both(rack, &schedule, seed, fault, &mut chance, &mut counts);
-        let half = u64::from(chance.below(1500));
-        let schedule = Drawing::new(&mut chance, 2).schedule(half.min(left));
-        both(rack, &schedule, seed, fault, &mut chance, &mut counts);
+        self.draw(60, good.min(left))?;
+        let half = u64::from(self.chance.below(1500));
+        self.draw(2, half.min(left))?;
         for _ in 0..TINY {
-            let few = u64::from(chance.below(5));
-            let schedule = Drawing::new(&mut chance, 3).schedule(few);
-            both(rack, &schedule, seed, fault, &mut chance, &mut counts);
+            let few = u64::from(self.chance.below(5));
+            self.draw(3, few)?;
         }
+        Ok(())
     }
-    counts.print(seed);
+
+    /// A schedule of so many lines, one of so many damaged.
+    fn draw(&mut self, damaged: u32, lines: u64) -> Agreed {
+        let schedule = Drawing::new(&mut self.chance, damaged).schedule(lines);
+        self.put(&schedule)
+    }
+
+    /// Puts the schedule to the program and to the model.
+    fn put(&mut self, schedule: &[u8]) -> Agreed {
+        let expected = self.faulty.answers(schedule);
+        let pieces = pieces(schedule.len(), &mut self.chance);
+        let (output, status) = run(self.rack, schedule, &pieces).unwrap_or_else(|error| {
+            eprintln!("compare: {} cannot be run: {error}", self.rack.display());
+            exit(2);
+        });
+        if output != written(&expected) || !status.success() {
+            return differ(&difference(schedule, &output, &written(&expected), self.seed, status));
+        }
+        self.counts.add(&expected);
+        Ok(())
+    }
 }
 
-/// Puts the schedule to both. A difference is printed, and ends the program.
-fn both(rack: &Path, schedule: &[u8], seed: u64, fault: Fault, chance: &mut Chance, counts: &mut Counts) {
-    let expected = answers(schedule, fault);
-    let (output, status) = run(rack, schedule, &pieces(schedule.len(), chance)).unwrap_or_else(|error| {
-        eprintln!("compare: {} cannot be run: {error}", rack.display());
-        exit(2);
-    });
-    if output != written(&expected) || !status.success() {
-        difference(schedule, &output, &written(&expected), seed, status);
-        exit(1);
-    }
-    counts.add(&expected);
-}
-
-/// The lengths of the pieces in which an input is fed. What waits in the pipe is read together; only a short input that is fed byte
-/// by byte, now and then, is sure to be read so.
+/// The lengths of the pieces in which an input is fed. What waits in the pipe is read together; only a short input that
+/// is fed byte by byte, now and then, is sure to be read so.
 fn pieces(length: usize, chance: &mut Chance) -> Vec<usize> {
     let most = match chance.below(8) {
         0 if length <= 200 => 1,
@@ -153,7 +179,8 @@ fn feed(mut stdin: ChildStdin, mut input: &[u8], pieces: &[usize]) {
     }
 }
 
-fn difference(schedule: &[u8], output: &[u8], expected: &[u8], seed: u64, status: ExitStatus) {
+/// The first line at which they differ. The schedule is left in a file.
+fn difference(schedule: &[u8], output: &[u8], expected: &[u8], seed: u64, status: ExitStatus) -> [String; 5] {
     let mut program = output.split_inclusive(|byte| *byte == b'\n');
     let mut model = expected.split_inclusive(|byte| *byte == b'\n');
     let mut number = 1;
@@ -164,17 +191,20 @@ fn difference(schedule: &[u8], output: &[u8], expected: &[u8], seed: u64, status
         }
         number += 1;
     };
-    println!("seed {seed}: a difference at line {number}; the program ended with {status}");
-    println!("the program wrote {}", a.map_or("nothing more".to_string(), shown));
-    println!("the model wrote {}", b.map_or("nothing more".to_string(), shown));
-    match lines(schedule, 0).get(number - 1) {
-        Some(line) => println!("the line is {}, its end {}", shown(line.text), shown(line.end)),
-        None => println!("there is no such line"),
-    }
-    match std::fs::write(DIFFERENT, schedule) {
-        Ok(()) => println!("the schedule is in {DIFFERENT}"),
-        Err(error) => println!("the schedule cannot be written to {DIFFERENT}: {error}"),
-    }
+    let wrote = |line: Option<&[u8]>| line.map_or("nothing more".to_string(), shown);
+    [
+        format!("seed {seed}: a difference at line {number}; the program ended with {status}"),
+        format!("the program wrote {}", wrote(a)),
+        format!("the model wrote {}", wrote(b)),
+        match lines(schedule).nth(number - 1) {
+            Some(line) => format!("the line is {}, its end {}", shown(line.text), shown(line.end)),
+            None => "there is no such line".to_string(),
+        },
+        match std::fs::write(DIFFERENT, schedule) {
+            Ok(()) => format!("the schedule is in {DIFFERENT}"),
+            Err(error) => format!("the schedule cannot be written to {DIFFERENT}: {error}"),
+        },
+    ]
 }
 
 /// Bytes as text in which each can be told from the others.

@@ -1,45 +1,20 @@
-//! The model's board in the library's 239 words, and back: n, m and the release, then four words for a node (up, ts, console,
-//! value), seven for a console (state, wanted, answered, ts, console, value, mark), four for a cell (frame, ts, console, value).
-use crate::faults::{Fault, THREE_IS_TWO};
-use crate::model::{Console, Frame, Kind, Model, Node, Release, State, Tag};
+//! The model's board in the library's words, and back.
+use crate::model::{Console, Frame, Model, Node, Release, State, Tag};
+pub use common::words::*;
 use hatukeno::BOARD_WORDS;
-
-pub type Words = [u32; BOARD_WORDS];
-
-/// Where the word of the release is: 2 is release 2, and every other number release 1.
-pub const RELEASE: usize = 2;
-/// Where the words of the nodes, the consoles and the cells begin, and how many each has.
-const NODES: usize = 3;
-const NODE: usize = 4;
-const CONSOLES: usize = NODES + 5 * NODE;
-const CONSOLE: usize = 7;
-const CELLS: usize = CONSOLES + 8 * CONSOLE;
-const CELL: usize = 4;
-
-/// Where the word of a console's mark is; the mark is off only at 0.
-pub fn place_of_mark(c: u32) -> usize {
-    CONSOLES + CONSOLE * c as usize + 6
-}
 
 fn tag(w: &[u32]) -> Tag {
     (u64::from(w[0]), u64::from(w[1]))
 }
 
-pub fn read(w: &Words, fault: Fault) -> Model {
+pub fn read(w: &Words) -> Model {
     let node = |w: &[u32]| Node {
         up: w[0] != 0,
         tag: tag(&w[1..]),
         value: w[3],
     };
     let console = |w: &[u32]| Console {
-        state: match w[0] {
-            0 => State::Idle,
-            1 => State::Asking(Kind::Read),
-            2 => State::Asking(Kind::Write),
-            3 => State::Telling(Kind::Read),
-            4 => State::Telling(Kind::Write),
-            _ => State::Down,
-        },
+        state: State::of_word(w[0]),
         wanted: w[1],
         answered: (0..8).filter(|k| w[2] / 2u32.pow(*k) % 2 == 1).collect(),
         best: tag(&w[3..]),
@@ -58,7 +33,6 @@ pub fn read(w: &Words, fault: Fault) -> Model {
         m: w[1],
         release: match w[RELEASE] {
             2 => Release::Two,
-            3.. if fault == THREE_IS_TWO => Release::Two,
             _ => Release::One,
         },
         nodes: (0..).zip(w[NODES..CONSOLES].chunks(NODE).map(node)).collect(),
@@ -81,24 +55,16 @@ pub fn write(b: &Model) -> Words {
         Release::Two => 2,
     };
     for (k, x) in &b.nodes {
-        let p = NODES + NODE * *k as usize;
+        let p = node(*k);
         w[p..p + NODE].copy_from_slice(&[u32::from(x.up), ts(x.tag), of(x.tag), x.value]);
     }
     for (c, x) in &b.consoles {
-        let state = match x.state {
-            State::Idle => 0,
-            State::Asking(Kind::Read) => 1,
-            State::Asking(Kind::Write) => 2,
-            State::Telling(Kind::Read) => 3,
-            State::Telling(Kind::Write) => 4,
-            State::Down => 5,
-        };
         let answered = x.answered.iter().map(|k| 2u32.pow(*k)).sum();
-        let p = CONSOLES + CONSOLE * *c as usize;
-        w[p..p + CONSOLE].copy_from_slice(&[state, x.wanted, answered, ts(x.best), of(x.best), x.value, u32::from(x.alike)]);
+        let (p, state, alike) = (console(*c), x.state.word(), u32::from(x.alike));
+        w[p..p + CONSOLE].copy_from_slice(&[state, x.wanted, answered, ts(x.best), of(x.best), x.value, alike]);
     }
     for ((c, k), f) in &b.cells {
-        let p = CELLS + CELL * (*c * 5 + *k) as usize;
+        let p = cell(*c, *k);
         let four = match f {
             Frame::Ask => [1, 0, 0, 0],
             Frame::Reply(t, v) => [2, ts(*t), of(*t), *v],

@@ -1,5 +1,5 @@
-//! What the runs, the damaged boards and the schedules are drawn by.
-use crate::model::{Release, Step, RELEASES};
+//! What runs, boards and schedules are drawn by.
+use crate::Step;
 
 /// Numbers by chance, the same ones for the same seed (splitmix64).
 pub struct Chance(pub u64);
@@ -38,12 +38,9 @@ impl Chance {
         }
     }
 
-    pub fn release(&mut self) -> Release {
-        RELEASES[self.below(2) as usize]
-    }
-
-    /// Mostly deliveries. With crashes a node is up some three quarters of the time, by three node ups drawn for each node down,
-    /// whether it is up or not. Consoles that are down do not come back, so long runs need some without crashes.
+    /// Mostly deliveries. With crashes a node is up some three quarters of the time, by three node ups drawn for each
+    /// node down, whether it is up or not. Consoles that are down do not come back, so long runs need some without
+    /// crashes.
     pub fn step(&mut self, n: u32, m: u32, crashes: bool) -> Step {
         match if crashes { self.below(1037) } else { 45 + self.below(992) } {
             0..=9 => Step::NodeDown(self.number(n)),
@@ -53,5 +50,14 @@ impl Chance {
             138..=237 => Step::BeginWrite(self.number(m), self.value()),
             _ => Step::Deliver(self.number(m), self.number(n)),
         }
+    }
+
+    /// One of these, if there is any.
+    pub fn drawn<T>(&mut self, all: impl Iterator<Item = T> + Clone) -> Option<T> {
+        let count = all.clone().count() as u32;
+        if count == 0 {
+            return None;
+        }
+        all.clone().nth(self.below(count) as usize)
     }
 }
