@@ -30,13 +30,13 @@ use Rattle.board.specs.declared.Answer.{Answer}
 use Rattle.board.specs.declared.Board.{Board}
 use Rattle.guarantee.specs.Claim.{_also_, All, none}
 use Rattle.guarantee.specs.EveryStep.{FreshFormed, StaysFormed}
-use Rattle.guarantee.proofs.Sizes.{Allowed}
-use Rattle.guarantee.proofs.States.{asking-waits, both, telling-waits}
-use Rattle.guarantee.proofs.Views.{Begun, Consoles-down, Delivered, Ranged, Switched, Yes, ask, begins, begun, consoles-down, delivered, did-begin, did-console, did-node, drop-ack, drop-reply, finish, finish-early, finished, hear, hear-ack, into, no, no-begin, no-console, no-node, nodes-down, nodes-up, out, put, questions, turn, turned, withdraw}
-use Rattle.guarantee.proofs.Formed.{Formed, formed, formed-console, formed-frame, formed-node, formed-row, formed-whole, setup-allowed}
-use Rattle.guarantee.proofs.Boards.{Good, Passes, well-formed}
-use Rattle.guarantee.proofs.Consoles.{acked-ok, asks-ok, hears-kind, hears-ok, next-good, rests-ok, taken-kind, tells-kind, tells-ok, waits, zero-good}
-use Rattle.guarantee.proofs.Starts.{fresh-ok}
+use Rattle.guarantee.proofs.Laws.Sizes.{Allowed}
+use Rattle.guarantee.proofs.Laws.States.{asking-waits, both, telling-waits}
+use Rattle.guarantee.proofs.Board.Views.{Begun, Consoles-down, Delivered, Ranged, Switched, Yes, ask, begins, begun, consoles-down, delivered, did-begin, did-console, did-node, drop-ack, drop-reply, finish, finish-early, finished, hear, hear-ack, into, no, no-begin, no-console, no-node, nodes-down, nodes-up, out, put, questions, turn, turned, withdraw}
+use Rattle.guarantee.proofs.Board.Formed.{Formed, formed, formed-console, formed-frame, formed-node, formed-row, formed-whole, setup-allowed}
+use Rattle.guarantee.proofs.Board.Boards.{Good, Passes, well-formed}
+use Rattle.guarantee.proofs.Board.Consoles.{acked-ok, asks-ok, hears-kind, hears-ok, next-good, rests-ok, taken-kind, tells-kind, tells-ok, waits, zero-good}
+use Rattle.guarantee.proofs.Run.Starts.{fresh-ok}
 
 -- ---- the clauses of a part in range, from its tag and its state
 

@@ -1,28 +1,9 @@
--- The proof of demand 3, in the order in which the files build on each other; then what holds of every step on every board.
-pub mod Lists
-pub mod Quorums
-pub mod Sets
-pub mod Tags
-pub mod Sizes
-pub mod States
-pub mod Shapes
-pub mod Views
-pub mod Rows
-pub mod Formed
-pub mod Boards
-pub mod Consoles
-pub mod Spent
-pub mod Effects
-pub mod Finishes
-pub mod ToNode
-pub mod Replies
-pub mod Acks
-pub mod Deliveries
-pub mod Starts
-pub mod Moves
-pub mod Known
-pub mod Invariant
-pub mod StepsKeep
+-- The proof of demand 3, from laws that mention no board to the theorem; then what holds of every step on every board. A file of a
+-- folder uses those before it, in the order of the folder's own file.
+pub mod Laws
+pub mod Board
+pub mod Delivery
+pub mod Run
 pub mod Progress
 pub mod Theorem
 pub mod KeepsFormed

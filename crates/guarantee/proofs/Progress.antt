@@ -35,19 +35,19 @@ use Rattle.board.specs.declared.Answer.{Answer}
 use Rattle.board.specs.declared.Board.{Board}
 use Rattle.guarantee.specs.Claim.{_also_, HasDeliverable, none}
 use Rattle.guarantee.specs.Log.{Run, tally, writesBegun}
-use Rattle.guarantee.proofs.Lists.{any-all, each-same}
-use Rattle.guarantee.proofs.Quorums.{Differ, differ}
-use Rattle.guarantee.proofs.Sets.{size-count}
-use Rattle.guarantee.proofs.Sizes.{sizeFor}
-use Rattle.guarantee.proofs.States.{ask-size-for, asking-waits, implies-of, split, split-but, tell-size-for, waiting-cases}
-use Rattle.guarantee.proofs.Shapes.{m-is, n-is}
-use Rattle.guarantee.proofs.Views.{all-yes}
-use Rattle.guarantee.proofs.Rows.{ask-full, tell-full}
-use Rattle.guarantee.proofs.Boards.{BoardOk, Good, board-up, well-formed}
-use Rattle.guarantee.proofs.Consoles.{WaitsOk, hears-kind, waits}
-use Rattle.guarantee.proofs.Effects.{reply-kind}
-use Rattle.guarantee.proofs.Known.{Known, hasWritten, known-fair, tally-lt, unwritten}
-use Rattle.guarantee.proofs.Invariant.{Inv}
+use Rattle.guarantee.proofs.Laws.Lists.{any-all, each-same}
+use Rattle.guarantee.proofs.Laws.Quorums.{Differ, differ}
+use Rattle.guarantee.proofs.Laws.Sets.{size-count}
+use Rattle.guarantee.proofs.Laws.Sizes.{sizeFor}
+use Rattle.guarantee.proofs.Laws.States.{ask-size-for, asking-waits, implies-of, split, split-but, tell-size-for, waiting-cases}
+use Rattle.guarantee.proofs.Board.Shapes.{m-is, n-is}
+use Rattle.guarantee.proofs.Board.Views.{all-yes}
+use Rattle.guarantee.proofs.Board.Rows.{ask-full, tell-full}
+use Rattle.guarantee.proofs.Board.Boards.{BoardOk, Good, board-up, well-formed}
+use Rattle.guarantee.proofs.Board.Consoles.{WaitsOk, hears-kind, waits}
+use Rattle.guarantee.proofs.Delivery.Effects.{reply-kind}
+use Rattle.guarantee.proofs.Run.Known.{Known, hasWritten, known-fair, tally-lt, unwritten}
+use Rattle.guarantee.proofs.Run.Invariant.{Inv}
 
 abbrev Accepts : Answer → Type 0
 Accepts a = accepted (a .outcome) ≡ true

@@ -32,7 +32,7 @@ use Rattle.board.specs.WellFormed.{wellFormed}
 use Rattle.board.specs.declared.Board.{Board}
 use Rattle.guarantee.specs.Claim.{_also_, All, Any, here, none, there}
 use Rattle.guarantee.specs.EveryStep.{Demand1, FreshNumbered, Numbered}
-use Rattle.guarantee.proofs.States.{contra, split}
+use Rattle.guarantee.proofs.Laws.States.{contra, split}
 
 -- a decision that refuses with one of the numbers, or accepts
 abbrev Among : List ℕ → Decision → Type 0

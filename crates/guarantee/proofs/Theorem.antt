@@ -9,12 +9,12 @@ use Rattle.parts.specs.declared.Setup.{Setup}
 use Rattle.board.specs.declared.Board.{Board}
 use Rattle.guarantee.specs.Claim.{Claim, Demand3, FinishedBefore, Fresher, HasOpen, Waits, maxWrites}
 use Rattle.guarantee.specs.Log.{Op, Run, after, run, start, writesBegun}
-use Rattle.guarantee.proofs.Lists.{all-both, all-imp, any-all, any-get}
-use Rattle.guarantee.proofs.Tags.{higher-of-key, key, lower-not-higher}
-use Rattle.guarantee.proofs.Spent.{most}
-use Rattle.guarantee.proofs.Moves.{OpOk}
-use Rattle.guarantee.proofs.Invariant.{Inv, PairOk}
-use Rattle.guarantee.proofs.StepsKeep.{inv-after, inv-start}
+use Rattle.guarantee.proofs.Laws.Lists.{all-both, all-imp, any-all, any-get}
+use Rattle.guarantee.proofs.Laws.Tags.{higher-of-key, key, lower-not-higher}
+use Rattle.guarantee.proofs.Delivery.Spent.{most}
+use Rattle.guarantee.proofs.Run.Moves.{OpOk}
+use Rattle.guarantee.proofs.Run.Invariant.{Inv, PairOk}
+use Rattle.guarantee.proofs.Run.StepsKeep.{inv-after, inv-start}
 use Rattle.guarantee.proofs.Progress.{progress}
 
 -- freshness, of two operations in order

@@ -17,15 +17,15 @@ use Rattle.well_formed.specs.Clauses.{isZero, markOk, restOk, stateOk, wantedOk
 use Rattle.decisions.specs.Changes.{asks, rests, withUp}
 use Rattle.board.specs.Boards.{consoleAt, frameAt, freshBoard, nodeAt, withConsole, withNode, withRow}
 use Rattle.board.specs.declared.Board.{Board}
-use Rattle.guarantee.proofs.Sets.{member-empty, power-pos}
-use Rattle.guarantee.proofs.Sizes.{Allowed}
-use Rattle.guarantee.proofs.States.{contra}
-use Rattle.guarantee.proofs.Shapes.{console-same, nodes-with, row-beyond, row-same, shape-row}
-use Rattle.guarantee.proofs.Views.{begun}
-use Rattle.guarantee.proofs.Rows.{Floor, Held, RowOk, begun-floor, grow-row, rest-row, unasked}
-use Rattle.guarantee.proofs.Boards.{Beside, BoardOk, Passes, TagKind, beside-console, beside-node, beside-row, beside-trans, kept, same-floor, same-row, tags}
-use Rattle.guarantee.proofs.Consoles.{Fair, asks-ok, console-state, rests-ok}
-use Rattle.guarantee.proofs.Effects.{RowFloor}
+use Rattle.guarantee.proofs.Laws.Sets.{member-empty, power-pos}
+use Rattle.guarantee.proofs.Laws.Sizes.{Allowed}
+use Rattle.guarantee.proofs.Laws.States.{contra}
+use Rattle.guarantee.proofs.Board.Shapes.{console-same, nodes-with, row-beyond, row-same, shape-row}
+use Rattle.guarantee.proofs.Board.Views.{begun}
+use Rattle.guarantee.proofs.Board.Rows.{Floor, Held, RowOk, begun-floor, grow-row, rest-row, unasked}
+use Rattle.guarantee.proofs.Board.Boards.{Beside, BoardOk, Passes, TagKind, beside-console, beside-node, beside-row, beside-trans, kept, same-floor, same-row, tags}
+use Rattle.guarantee.proofs.Board.Consoles.{Fair, asks-ok, console-state, rests-ok}
+use Rattle.guarantee.proofs.Delivery.Effects.{RowFloor}
 
 -- ---- a console begins
 

@@ -22,8 +22,8 @@ use Rattle.board.proofs.WellFormedLaws.{cell-passes, console-passes, node-passe
 use Rattle.board.specs.Boards.{consoleAt, frameAt, nodeAt, withConsole, withFrame, withNode, withRow}
 use Rattle.board.specs.WellFormed.{wellFormed}
 use Rattle.board.specs.declared.Board.{Board}
-use Rattle.guarantee.proofs.Sizes.{Allowed}
-use Rattle.guarantee.proofs.States.{both}
+use Rattle.guarantee.proofs.Laws.Sizes.{Allowed}
+use Rattle.guarantee.proofs.Laws.States.{both}
 
 -- every part of a board made under σ passes its clause
 pub record Formed (σ : Setup) (b : Board) : Type 0 where

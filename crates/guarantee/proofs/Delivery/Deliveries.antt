@@ -14,14 +14,14 @@ use Rattle.board.specs.Answers.{refuse}
 use Rattle.board.specs.Boards.{consoleAt, frameAt}
 use Rattle.board.specs.declared.Answer.{Answer}
 use Rattle.board.specs.declared.Board.{Board}
-use Rattle.guarantee.proofs.Shapes.{m-is, n-is}
-use Rattle.guarantee.proofs.Views.{Delivered, Ranged, ask, drop-ack, drop-reply, finish, finish-early, hear, hear-ack, into, no, out, put, turn, withdraw}
-use Rattle.guarantee.proofs.Boards.{BoardOk, TagKind}
-use Rattle.guarantee.proofs.Consoles.{Fair}
-use Rattle.guarantee.proofs.Effects.{Delivery, Effect}
-use Rattle.guarantee.proofs.ToNode.{ask-effect, drop-ack-effect, drop-reply-effect, put-effect, withdraw-effect}
-use Rattle.guarantee.proofs.Replies.{early-effect, hear-effect, turn-effect, turn-state}
-use Rattle.guarantee.proofs.Acks.{hear-ack-effect, last-ack-effect}
+use Rattle.guarantee.proofs.Board.Shapes.{m-is, n-is}
+use Rattle.guarantee.proofs.Board.Views.{Delivered, Ranged, ask, drop-ack, drop-reply, finish, finish-early, hear, hear-ack, into, no, out, put, turn, withdraw}
+use Rattle.guarantee.proofs.Board.Boards.{BoardOk, TagKind}
+use Rattle.guarantee.proofs.Board.Consoles.{Fair}
+use Rattle.guarantee.proofs.Delivery.Effects.{Delivery, Effect}
+use Rattle.guarantee.proofs.Delivery.ToNode.{ask-effect, drop-ack-effect, drop-reply-effect, put-effect, withdraw-effect}
+use Rattle.guarantee.proofs.Delivery.Replies.{early-effect, hear-effect, turn-effect, turn-state}
+use Rattle.guarantee.proofs.Delivery.Acks.{hear-ack-effect, last-ack-effect}
 
 pub data StepEffect (K : TagKind) (σ : Setup) (c : ℕ) (b : Board) : Answer → Type 0 where
   refusal : {r : ℕ} → StepEffect K σ c b (refuse b r)

@@ -25,20 +25,20 @@ use Rattle.board.specs.declared.Answer.{Answer}
 use Rattle.board.specs.declared.Board.{Board}
 use Rattle.guarantee.specs.Claim.{_also_, Any, OpenAt, here, none, there}
 use Rattle.guarantee.specs.Log.{Op, Run, after, delivering, follow, isOpen, isOpenAt, losing, next, noted, ofConsole, opened, start, tally, upAfter}
-use Rattle.guarantee.proofs.Lists.{Each, all-each, all-imp, any-each, each-map}
-use Rattle.guarantee.proofs.Tags.{key}
-use Rattle.guarantee.proofs.Sizes.{Allowed}
-use Rattle.guarantee.proofs.States.{asking-waits, contra, turns}
-use Rattle.guarantee.proofs.Shapes.{m-is, n-is}
-use Rattle.guarantee.proofs.Views.{Begun, Consoles-down, Ranged, Switched, begins, begun, consoles-down, delivered, did-begin, did-console, did-node, fresh-made, no-begin, no-console, no-node, nodes-down, nodes-up}
-use Rattle.guarantee.proofs.Boards.{BoardOk, Good, TagKind, beside-console, board-up}
-use Rattle.guarantee.proofs.Consoles.{Fair, hears-kind, next-good}
-use Rattle.guarantee.proofs.Effects.{Own, ends-now, goesOn, going, reply-kind, turns-now}
-use Rattle.guarantee.proofs.Deliveries.{Chooses, StepEffect, deliver-effect, effect, effect-ok, refusal}
-use Rattle.guarantee.proofs.Starts.{Begins, begin-effect, down-ok, down-state, down-ups, fresh-console, fresh-node, fresh-ok, node-ok, node-side, node-ups}
-use Rattle.guarantee.proofs.Moves.{Moves, OpOk, deliver-moves, down-moves, open-complete, open-is}
-use Rattle.guarantee.proofs.Known.{Known, good-fair, known-cons, known-fair, known-moves, more-written, tally-none}
-use Rattle.guarantee.proofs.Invariant.{Inv, all-apart, inv-refused, inv-step, open-move, pairs-move, stepped, waits-beside}
+use Rattle.guarantee.proofs.Laws.Lists.{Each, all-each, all-imp, any-each, each-map}
+use Rattle.guarantee.proofs.Laws.Tags.{key}
+use Rattle.guarantee.proofs.Laws.Sizes.{Allowed}
+use Rattle.guarantee.proofs.Laws.States.{asking-waits, contra, turns}
+use Rattle.guarantee.proofs.Board.Shapes.{m-is, n-is}
+use Rattle.guarantee.proofs.Board.Views.{Begun, Consoles-down, Ranged, Switched, begins, begun, consoles-down, delivered, did-begin, did-console, did-node, fresh-made, no-begin, no-console, no-node, nodes-down, nodes-up}
+use Rattle.guarantee.proofs.Board.Boards.{BoardOk, Good, TagKind, beside-console, board-up}
+use Rattle.guarantee.proofs.Board.Consoles.{Fair, hears-kind, next-good}
+use Rattle.guarantee.proofs.Delivery.Effects.{Own, ends-now, goesOn, going, reply-kind, turns-now}
+use Rattle.guarantee.proofs.Delivery.Deliveries.{Chooses, StepEffect, deliver-effect, effect, effect-ok, refusal}
+use Rattle.guarantee.proofs.Run.Starts.{Begins, begin-effect, down-ok, down-state, down-ups, fresh-console, fresh-node, fresh-ok, node-ok, node-side, node-ups}
+use Rattle.guarantee.proofs.Run.Moves.{Moves, OpOk, deliver-moves, down-moves, open-complete, open-is}
+use Rattle.guarantee.proofs.Run.Known.{Known, good-fair, known-cons, known-fair, known-moves, more-written, tally-none}
+use Rattle.guarantee.proofs.Run.Invariant.{Inv, all-apart, inv-refused, inv-step, open-move, pairs-move, stepped, waits-beside}
 
 -- ---- deliver
 

@@ -17,14 +17,14 @@ use Rattle.decisions.specs.Changes.{taken}
 use Rattle.board.specs.Answers.{answer}
 use Rattle.board.specs.Boards.{consoleAt, frameAt, nodeAt, withFrame, withNode}
 use Rattle.board.specs.declared.Board.{Board}
-use Rattle.guarantee.proofs.Tags.{key}
-use Rattle.guarantee.proofs.States.{asking-waits, contra, telling-waits, waiting-cases, waiting-up}
-use Rattle.guarantee.proofs.Shapes.{node-same, nodes-with, shape-frame}
-use Rattle.guarantee.proofs.Rows.{AskFrame, TellFrame, ask-not-ack, ask-not-put, ask-replied, frame-floor, frame-row, grow-floor, grow-row, not-reply, put-took, tell-grow, tell-not-ask, tell-not-reply}
-use Rattle.guarantee.proofs.Boards.{Beside, FrameHas, TagKind, beside-frame, beside-node, beside-trans, kept, tags}
-use Rattle.guarantee.proofs.Consoles.{taken-key, taken-kind, taken-up}
-use Rattle.guarantee.proofs.Spent.{sent, spent, spent-frame}
-use Rattle.guarantee.proofs.Effects.{Delivery, Effect, beyond-with, change, five, frames-with, goesOn, going, k-5, put-kind, row-of, small-of, spentAt, unanswered}
+use Rattle.guarantee.proofs.Laws.Tags.{key}
+use Rattle.guarantee.proofs.Laws.States.{asking-waits, contra, telling-waits, waiting-cases, waiting-up}
+use Rattle.guarantee.proofs.Board.Shapes.{node-same, nodes-with, shape-frame}
+use Rattle.guarantee.proofs.Board.Rows.{AskFrame, TellFrame, ask-not-ack, ask-not-put, ask-replied, frame-floor, frame-row, grow-floor, grow-row, not-reply, put-took, tell-grow, tell-not-ask, tell-not-reply}
+use Rattle.guarantee.proofs.Board.Boards.{Beside, FrameHas, TagKind, beside-frame, beside-node, beside-trans, kept, tags}
+use Rattle.guarantee.proofs.Board.Consoles.{taken-key, taken-kind, taken-up}
+use Rattle.guarantee.proofs.Delivery.Spent.{sent, spent, spent-frame}
+use Rattle.guarantee.proofs.Delivery.Effects.{Delivery, Effect, beyond-with, change, five, frames-with, goesOn, going, k-5, put-kind, row-of, small-of, spentAt, unanswered}
 
 module _ {K : TagKind} {σ : Setup} {b : Board} {c k : ℕ} (d : Delivery K σ b c k) where
   -- the frame alone changes: the node's tag is as before

@@ -22,11 +22,11 @@ use Rattle.parts.specs.declared.State.the-variants.{Asking, Down, Idle, Telling
 use Rattle.parts.specs.declared.Tag.{Tag}
 use Rattle.well_formed.specs.Clauses.{isZero, markOk, restOk, stateOk, tagOk, waitOk, wantedOk}
 use Rattle.decisions.specs.Changes.{acked, asks, hears, nextTag, rests, stillAlike, taken, tells}
-use Rattle.guarantee.proofs.Sets.{insert-first, insert-small, insert-some, power-pos, size-empty, small-32}
-use Rattle.guarantee.proofs.Tags.{Small, greater-false, greater-true, key}
-use Rattle.guarantee.proofs.Sizes.{Allowed, ask-pos, sizeFor, tell-pos}
-use Rattle.guarantee.proofs.States.{ask-size-for, both, contra, implies-of, split, tell-size-for, turns}
-use Rattle.guarantee.proofs.Boards.{Good, Passes, TagKind}
+use Rattle.guarantee.proofs.Laws.Sets.{insert-first, insert-small, insert-some, power-pos, size-empty, small-32}
+use Rattle.guarantee.proofs.Laws.Tags.{Small, greater-false, greater-true, key}
+use Rattle.guarantee.proofs.Laws.Sizes.{Allowed, ask-pos, sizeFor, tell-pos}
+use Rattle.guarantee.proofs.Laws.States.{ask-size-for, both, contra, implies-of, split, tell-size-for, turns}
+use Rattle.guarantee.proofs.Board.Boards.{Good, Passes, TagKind}
 
 -- ---- good tags
 

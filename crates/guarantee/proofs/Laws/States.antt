@@ -10,7 +10,7 @@ use Rattle.parts.specs.Sizes.{askSize, tellSize}
 use Rattle.parts.specs.declared.Setup.{Setup}
 use Rattle.parts.specs.declared.State.{State}
 use Rattle.parts.specs.declared.State.the-variants.{Asking, Down, Idle, Telling}
-use Rattle.guarantee.proofs.Sizes.{sizeFor}
+use Rattle.guarantee.proofs.Laws.Sizes.{sizeFor}
 
 pub contra : {a : Bool} → a ≡ true → a ≡ false → ⊥
 contra e f = let z : _≡_ {A = ℕ} 0 1 = cc in omega arith

@@ -13,12 +13,12 @@ use Rattle.parts.specs.declared.State.the-variants.{Idle}
 use Rattle.decisions.specs.Changes.{rests}
 use Rattle.board.specs.Boards.{consoleAt, frameAt, nodeAt, withConsole, withFrame}
 use Rattle.board.specs.declared.Board.{Board}
-use Rattle.guarantee.proofs.Tags.{key}
-use Rattle.guarantee.proofs.Views.{finished}
-use Rattle.guarantee.proofs.Rows.{Held, RowOk, rest-row}
-use Rattle.guarantee.proofs.Boards.{BoardOk, TagKind, tags}
-use Rattle.guarantee.proofs.Consoles.{rests-ok}
-use Rattle.guarantee.proofs.Effects.{Delivery, Effect, RowFloor, console-is, console-ok, console-side, console-ups, ends-now, five, small-of, spent-below}
+use Rattle.guarantee.proofs.Laws.Tags.{key}
+use Rattle.guarantee.proofs.Board.Views.{finished}
+use Rattle.guarantee.proofs.Board.Rows.{Held, RowOk, rest-row}
+use Rattle.guarantee.proofs.Board.Boards.{BoardOk, TagKind, tags}
+use Rattle.guarantee.proofs.Board.Consoles.{rests-ok}
+use Rattle.guarantee.proofs.Delivery.Effects.{Delivery, Effect, RowFloor, console-is, console-ok, console-side, console-ups, ends-now, five, small-of, spent-below}
 
 -- what a finish needs; with the last answer taken in the console is x, and best is the operation's tag
 pub record Finishes (K : TagKind) (σ : Setup) (b : Board) (c : ℕ) (x : Console) : Type 0 where

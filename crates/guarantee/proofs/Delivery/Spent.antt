@@ -17,9 +17,9 @@ use Rattle.parts.specs.declared.Frame.the-variants.{Ack, Ask, Nothing, Put, Rep
 use Rattle.parts.specs.declared.Setup.{Setup}
 use Rattle.parts.specs.declared.State.{State}
 use Rattle.parts.specs.declared.State.the-variants.{Asking, Down, Idle, Telling}
-use Rattle.guarantee.proofs.Sets.{insert-other, insert-same, size-count, small-32}
-use Rattle.guarantee.proofs.States.{contra}
-use Rattle.guarantee.proofs.Rows.{Changed}
+use Rattle.guarantee.proofs.Laws.Sets.{insert-other, insert-same, size-count, small-32}
+use Rattle.guarantee.proofs.Laws.States.{contra}
+use Rattle.guarantee.proofs.Board.Rows.{Changed}
 
 unfoldable pub sum : ℕ → (ℕ → ℕ) → ℕ
 sum zero f = 0

@@ -18,7 +18,7 @@ use Rattle.parts.specs.declared.Node.{Node}
 use Rattle.parts.specs.declared.Setup.{Setup}
 use Rattle.board.specs.Boards.{consoleAt, frameAt, nodeAt, withConsole, withFrame, withNode, withRow}
 use Rattle.board.specs.declared.Board.{Board}
-use Rattle.guarantee.proofs.Sizes.{Allowed}
+use Rattle.guarantee.proofs.Laws.Sizes.{Allowed}
 
 pub record Shape (σ : Setup) (b : Board) : Type 0 where
   pub setup-is : b .setup ≡ σ

@@ -19,11 +19,11 @@ use Rattle.parts.specs.declared.Frame.the-variants.{Ack, Ask, Nothing, Put, Rep
 use Rattle.parts.specs.declared.Setup.{Setup}
 use Rattle.parts.specs.declared.Tag.{Tag}
 use Rattle.decisions.specs.Changes.{acked, hears, nextTag, stillAlike, tells}
-use Rattle.guarantee.proofs.Quorums.{Meet, meet}
-use Rattle.guarantee.proofs.Sets.{insert-other, insert-same, insert-small, member-empty, power-pos, size-count, small-32}
-use Rattle.guarantee.proofs.Tags.{Small, greater-false, greater-true, key, same-key}
-use Rattle.guarantee.proofs.Sizes.{Allowed, quorum}
-use Rattle.guarantee.proofs.States.{asking-waits, contra, not-both, split, telling-waits, turns}
+use Rattle.guarantee.proofs.Laws.Quorums.{Meet, meet}
+use Rattle.guarantee.proofs.Laws.Sets.{insert-other, insert-same, insert-small, member-empty, power-pos, size-count, small-32}
+use Rattle.guarantee.proofs.Laws.Tags.{Small, greater-false, greater-true, key, same-key}
+use Rattle.guarantee.proofs.Laws.Sizes.{Allowed, quorum}
+use Rattle.guarantee.proofs.Laws.States.{asking-waits, contra, not-both, split, telling-waits, turns}
 
 -- ---- what a waiting console's frames are, by whether its node has answered
 

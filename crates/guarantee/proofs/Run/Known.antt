@@ -14,12 +14,12 @@ use Rattle.board.specs.Boards.{consoleAt}
 use Rattle.board.specs.declared.Board.{Board}
 use Rattle.guarantee.specs.Claim.{_also_, All, Any, OpenAt, here, none, there}
 use Rattle.guarantee.specs.Log.{Op, tally}
-use Rattle.guarantee.proofs.Lists.{Each, any-all, link, no-more}
-use Rattle.guarantee.proofs.Sizes.{Allowed}
-use Rattle.guarantee.proofs.States.{both, telling-waits}
-use Rattle.guarantee.proofs.Boards.{Good}
-use Rattle.guarantee.proofs.Consoles.{Fair, zero-good}
-use Rattle.guarantee.proofs.Moves.{Moves, OpOk}
+use Rattle.guarantee.proofs.Laws.Lists.{Each, any-all, link, no-more}
+use Rattle.guarantee.proofs.Laws.Sizes.{Allowed}
+use Rattle.guarantee.proofs.Laws.States.{both, telling-waits}
+use Rattle.guarantee.proofs.Board.Boards.{Good}
+use Rattle.guarantee.proofs.Board.Consoles.{Fair, zero-good}
+use Rattle.guarantee.proofs.Run.Moves.{Moves, OpOk}
 use mathlib.Core.Bool.{and-false}
 
 one-le : (a b : Bool) → (a ≡ true → b ≡ true) → one a ≤ one b

@@ -22,18 +22,18 @@ use Rattle.decisions.specs.Deliver.{finishesEarly}
 use Rattle.board.specs.Answers.{answerWith}
 use Rattle.board.specs.Boards.{consoleAt, frameAt, nodeAt, withConsole, withFrame, withRow}
 use Rattle.board.specs.declared.Board.{Board}
-use Rattle.guarantee.proofs.Sets.{insert-small}
-use Rattle.guarantee.proofs.Tags.{Small, key}
-use Rattle.guarantee.proofs.Sizes.{tell-le-ask}
-use Rattle.guarantee.proofs.States.{ask-size-for, asking-waits, turns}
-use Rattle.guarantee.proofs.Shapes.{console-same, row-beyond, row-same, shape-row}
-use Rattle.guarantee.proofs.Views.{finished, turned}
-use Rattle.guarantee.proofs.Rows.{RowOk, early-held, heard-all, heard-backed, heard-floor, heard-row, turned-floor, turned-row}
-use Rattle.guarantee.proofs.Boards.{Beside, BoardOk, Passes, TagKind, beside-console, beside-row, beside-trans, kept, same-floor, same-row, tags}
-use Rattle.guarantee.proofs.Consoles.{WaitsOk, asking-zero, console-state, hears-kind, hears-ok, tells-kind, tells-ok}
-use Rattle.guarantee.proofs.Spent.{earlier, earlier-asking, earlier-telling, phase-le, spent, spent-heard}
-use Rattle.guarantee.proofs.Effects.{Delivery, Effect, RowFloor, c-8, change, console-going, console-ok, console-side, console-ups, five, going, reply-kind, row-of, small-of, spentAt, turns-now, waiting}
-use Rattle.guarantee.proofs.Finishes.{finish-effect}
+use Rattle.guarantee.proofs.Laws.Sets.{insert-small}
+use Rattle.guarantee.proofs.Laws.Tags.{Small, key}
+use Rattle.guarantee.proofs.Laws.Sizes.{tell-le-ask}
+use Rattle.guarantee.proofs.Laws.States.{ask-size-for, asking-waits, turns}
+use Rattle.guarantee.proofs.Board.Shapes.{console-same, row-beyond, row-same, shape-row}
+use Rattle.guarantee.proofs.Board.Views.{finished, turned}
+use Rattle.guarantee.proofs.Board.Rows.{RowOk, early-held, heard-all, heard-backed, heard-floor, heard-row, turned-floor, turned-row}
+use Rattle.guarantee.proofs.Board.Boards.{Beside, BoardOk, Passes, TagKind, beside-console, beside-row, beside-trans, kept, same-floor, same-row, tags}
+use Rattle.guarantee.proofs.Board.Consoles.{WaitsOk, asking-zero, console-state, hears-kind, hears-ok, tells-kind, tells-ok}
+use Rattle.guarantee.proofs.Delivery.Spent.{earlier, earlier-asking, earlier-telling, phase-le, spent, spent-heard}
+use Rattle.guarantee.proofs.Delivery.Effects.{Delivery, Effect, RowFloor, c-8, change, console-going, console-ok, console-side, console-ups, five, going, reply-kind, row-of, small-of, spentAt, turns-now, waiting}
+use Rattle.guarantee.proofs.Delivery.Finishes.{finish-effect}
 
 -- only a read finishes early, and only with the mark on; the release is of no account to what follows
 early-reads : (σ : Setup) (x : Console) → finishesEarly σ x ≡ true → writes (x .state) ≡ false

@@ -15,14 +15,14 @@ use Rattle.board.specs.Boards.{consoleAt, nodeAt}
 use Rattle.board.specs.declared.Board.{Board}
 use Rattle.guarantee.specs.Claim.{All, Any, OpenAt}
 use Rattle.guarantee.specs.Log.{Complete, Op, Run, isOpen, isOpenAt, tally}
-use Rattle.guarantee.proofs.Lists.{Each, all-both, all-each, any-each, each-flip, each-same}
-use Rattle.guarantee.proofs.Tags.{key}
-use Rattle.guarantee.proofs.States.{both}
-use Rattle.guarantee.proofs.Boards.{Beside, BoardOk, beside-same}
-use Rattle.guarantee.proofs.Consoles.{waits}
-use Rattle.guarantee.proofs.Effects.{five}
-use Rattle.guarantee.proofs.Moves.{Above, Moves, OpOk, apart-moves, open-is}
-use Rattle.guarantee.proofs.Known.{Known, tally-le}
+use Rattle.guarantee.proofs.Laws.Lists.{Each, all-both, all-each, any-each, each-flip, each-same}
+use Rattle.guarantee.proofs.Laws.Tags.{key}
+use Rattle.guarantee.proofs.Laws.States.{both}
+use Rattle.guarantee.proofs.Board.Boards.{Beside, BoardOk, beside-same}
+use Rattle.guarantee.proofs.Board.Consoles.{waits}
+use Rattle.guarantee.proofs.Delivery.Effects.{five}
+use Rattle.guarantee.proofs.Run.Moves.{Above, Moves, OpOk, apart-moves, open-is}
+use Rattle.guarantee.proofs.Run.Known.{Known, tally-le}
 
 -- two operations of the log
 pub record PairOk (σ : Setup) (b : Board) (x y : Op) : Type 0 where

@@ -16,15 +16,15 @@ use Rattle.decisions.specs.Changes.{acked}
 use Rattle.board.specs.Answers.{answer}
 use Rattle.board.specs.Boards.{consoleAt, frameAt, withConsole, withFrame}
 use Rattle.board.specs.declared.Board.{Board}
-use Rattle.guarantee.proofs.Tags.{key}
-use Rattle.guarantee.proofs.States.{telling-waits}
-use Rattle.guarantee.proofs.Views.{finished}
-use Rattle.guarantee.proofs.Rows.{Held, RowOk, acked-floor, acked-row, finished-held}
-use Rattle.guarantee.proofs.Boards.{TagKind, tags}
-use Rattle.guarantee.proofs.Consoles.{WaitsOk, acked-ok}
-use Rattle.guarantee.proofs.Spent.{spent, spent-heard}
-use Rattle.guarantee.proofs.Effects.{Delivery, Effect, change, console-going, console-ok, console-side, console-ups, five, going, row-of, spentAt, waiting}
-use Rattle.guarantee.proofs.Finishes.{finish-effect}
+use Rattle.guarantee.proofs.Laws.Tags.{key}
+use Rattle.guarantee.proofs.Laws.States.{telling-waits}
+use Rattle.guarantee.proofs.Board.Views.{finished}
+use Rattle.guarantee.proofs.Board.Rows.{Held, RowOk, acked-floor, acked-row, finished-held}
+use Rattle.guarantee.proofs.Board.Boards.{TagKind, tags}
+use Rattle.guarantee.proofs.Board.Consoles.{WaitsOk, acked-ok}
+use Rattle.guarantee.proofs.Delivery.Spent.{spent, spent-heard}
+use Rattle.guarantee.proofs.Delivery.Effects.{Delivery, Effect, change, console-going, console-ok, console-side, console-ups, five, going, row-of, spentAt, waiting}
+use Rattle.guarantee.proofs.Delivery.Finishes.{finish-effect}
 
 module _ {K : TagKind} {σ : Setup} {b : Board} {c k : ℕ} (d : Delivery K σ b c k)
     (e : frameAt b c k ≡ Ack) (p : isTelling (consoleAt b c .state) ≡ true) (un : member (consoleAt b c .answered) k ≡ false) where

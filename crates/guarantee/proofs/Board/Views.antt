@@ -40,9 +40,9 @@ use Rattle.board.specs.WellFormed.{wellFormed}
 use Rattle.board.specs.declared.Answer.{Answer}
 use Rattle.board.specs.declared.Board.{Board}
 use Rattle.guarantee.specs.Claim.{_also_, All, none}
-use Rattle.guarantee.proofs.Lists.{all-head}
-use Rattle.guarantee.proofs.Sizes.{Allowed}
-use Rattle.guarantee.proofs.States.{both, contra, idle-is, split, split-but}
+use Rattle.guarantee.proofs.Laws.Lists.{all-head}
+use Rattle.guarantee.proofs.Laws.Sizes.{Allowed}
+use Rattle.guarantee.proofs.Laws.States.{both, contra, idle-is, split, split-but}
 
 -- a question answered yes
 abbrev pub Yes : Question → Type 0

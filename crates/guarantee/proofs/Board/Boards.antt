@@ -19,12 +19,12 @@ use Rattle.well_formed.specs.Clauses.{cellOk, consoleOk, consolesAllowed, frame
 use Rattle.board.specs.Boards.{consoleAt, frameAt, nodeAt, withConsole, withFrame, withNode, withRow}
 use Rattle.board.specs.WellFormed.{wellFormed}
 use Rattle.board.specs.declared.Board.{Board}
-use Rattle.guarantee.proofs.Tags.{key}
-use Rattle.guarantee.proofs.Sizes.{Allowed}
-use Rattle.guarantee.proofs.States.{both, split}
-use Rattle.guarantee.proofs.Shapes.{Shape, console-other, frame-other, node-other, nodes-with, row-other, shape-console, shape-frame, shape-node, shape-row}
-use Rattle.guarantee.proofs.Rows.{Backed, Floor, RowOk, grow-row}
-use Rattle.guarantee.proofs.Formed.{formed-whole}
+use Rattle.guarantee.proofs.Laws.Tags.{key}
+use Rattle.guarantee.proofs.Laws.Sizes.{Allowed}
+use Rattle.guarantee.proofs.Laws.States.{both, split}
+use Rattle.guarantee.proofs.Board.Shapes.{Shape, console-other, frame-other, node-other, nodes-with, row-other, shape-console, shape-frame, shape-node, shape-row}
+use Rattle.guarantee.proofs.Board.Rows.{Backed, Floor, RowOk, grow-row}
+use Rattle.guarantee.proofs.Board.Formed.{formed-whole}
 
 abbrev pub tags : Board → ℕ → Tag
 tags b k = nodeAt b k .tag

@@ -19,13 +19,13 @@ use Rattle.parts.specs.declared.Tag.{Tag}
 use Rattle.board.specs.Boards.{consoleAt, frameAt, nodeAt, withConsole, withFrame}
 use Rattle.board.specs.declared.Answer.{Answer}
 use Rattle.board.specs.declared.Board.{Board}
-use Rattle.guarantee.proofs.Tags.{Small, key}
-use Rattle.guarantee.proofs.States.{ask-size-for, tell-size-for, waiting-cases}
-use Rattle.guarantee.proofs.Shapes.{Shape, console-same, frame-beside, frame-same, shape-frame}
-use Rattle.guarantee.proofs.Rows.{Changed, Floor, Held, RowOk, ask-open, changed, tell-open}
-use Rattle.guarantee.proofs.Boards.{Beside, BoardOk, FrameHas, Passes, TagKind, beside-console, beside-frame, beside-trans, kept, same-floor, same-row, tags}
-use Rattle.guarantee.proofs.Consoles.{Fair, WaitsOk, tag-small, waits}
-use Rattle.guarantee.proofs.Spent.{earlier-asking, earlier-telling, most, phase-le, spent}
+use Rattle.guarantee.proofs.Laws.Tags.{Small, key}
+use Rattle.guarantee.proofs.Laws.States.{ask-size-for, tell-size-for, waiting-cases}
+use Rattle.guarantee.proofs.Board.Shapes.{Shape, console-same, frame-beside, frame-same, shape-frame}
+use Rattle.guarantee.proofs.Board.Rows.{Changed, Floor, Held, RowOk, ask-open, changed, tell-open}
+use Rattle.guarantee.proofs.Board.Boards.{Beside, BoardOk, FrameHas, Passes, TagKind, beside-console, beside-frame, beside-trans, kept, same-floor, same-row, tags}
+use Rattle.guarantee.proofs.Board.Consoles.{Fair, WaitsOk, tag-small, waits}
+use Rattle.guarantee.proofs.Delivery.Spent.{earlier-asking, earlier-telling, most, phase-le, spent}
 
 -- the floor under console c's operation, and its deliveries so far, on a board
 abbrev pub RowFloor : Setup → Board → ℕ → ℕ → Type 0
