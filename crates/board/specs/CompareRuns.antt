@@ -22,7 +22,7 @@ use Rattle.board.specs.PRuns.{p9-board}
 
 -- a step, the numbers of its outcome and its refusal, how the reply compared, and the mark of its console after it
 pub record Told : Type 0 where
-  pub taken : Step
+  pub did : Step
   pub outcome : ℕ
   pub refusal : ℕ
   pub compared : Compared
@@ -46,7 +46,7 @@ consoleOf (NodeUp k) = 0
 abbrev told : Step → Answer → Told
 told s a =
     record {
-      taken = s;
+      did = s;
       outcome = outcomeNumber (a .outcome);
       refusal = a .refusal;
       compared = a .compared;
@@ -56,7 +56,7 @@ told s a =
 -- the same steps, with what they say one after the other
 unfoldable pub allTold : Board → List Told → List Told
 allTold b [] = []
-allTold b (l ∷ ls) = told (l .taken) (step b (l .taken)) ∷ allTold (step b (l .taken) .board) ls
+allTold b (l ∷ ls) = told (l .did) (step b (l .did)) ∷ allTold (step b (l .did) .board) ls
 
 abbrev pub says : CompareRun → List Told
 says r = allTold (r .start) (r .lines)
@@ -67,7 +67,7 @@ mustSay r = r .lines
 -- ---- the words of the runs; on says whether the mark is
 
 abbrev does : Step → ℕ → ℕ → Compared → Bool → Told
-does s o r how on = record { taken = s; outcome = o; refusal = r; compared = how; alike = on }
+does s o r how on = record { did = s; outcome = o; refusal = r; compared = how; alike = on }
 
 abbrev pub done : Step → Told
 done s = does s 1 0 None false

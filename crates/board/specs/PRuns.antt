@@ -68,17 +68,17 @@ seen b (NodeOf k) = Holds (nodeAt b k .tag) (nodeAt b k .value)
 seen b (CellOf c k) = Frames (frameAt b c k)
 seen b Whole = Is b
 
--- the board after it
-unfoldable pub after : Board → Look → Board
-after b (Make σ) = steps.fresh σ .board
-after b (Take s) = step b s .board
-after b (NodeOf k) = b
-after b (CellOf c k) = b
-after b Whole = b
+-- the board that it leaves
+unfoldable pub left : Board → Look → Board
+left b (Make σ) = steps.fresh σ .board
+left b (Take s) = step b s .board
+left b (NodeOf k) = b
+left b (CellOf c k) = b
+left b Whole = b
 
 unfoldable pub allSeen : Board → List Line → List Seen
 allSeen b [] = []
-allSeen b (l ∷ ls) = seen b (l .look) ∷ allSeen (after b (l .look)) ls
+allSeen b (l ∷ ls) = seen b (l .look) ∷ allSeen (left b (l .look)) ls
 
 -- what a run shows, and what it must show
 abbrev pub shows : PRun → List Seen

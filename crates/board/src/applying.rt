@@ -12,7 +12,7 @@ use parts::Cell;
 use parts::ConsoleId;
 use parts::NODES;
 use parts::NodeId;
-use parts::cells::place_of;
+use parts::cells::cell_index;
 
 impl Board {
     // What was decided of console c and node k is done on the board.
@@ -39,7 +39,7 @@ impl Board {
         match sent {
             Sent::Keep => {}
             Sent::One(f) => {
-                let at = place_of(c, k);
+                let at = cell_index(c, k);
                 if at < CELLS {
                     let x = Cell { frame: f };
                     self.cells[at] = x;
@@ -50,7 +50,7 @@ impl Board {
                 let n = self.setup.n;
                 let mut i: u32 = 0;
                 while i < n {
-                    let at = place_of(c, NodeId(i));
+                    let at = cell_index(c, NodeId(i));
                     if at < CELLS {
                         self.cells[at] = x;
                     }

@@ -7,7 +7,7 @@ use native.Mathlib.Omega.{arith}
 use mathlib.Core.Path.{refl, _≡_}
 use Rattle.parts.specs.AnsweredSet.{insert, member, onlyBelow, size}
 use Rattle.parts.specs.Finite.{count, every}
-use Rattle.parts.specs.Parts.{consoleIn, frameIn, nodeIn, place, setFrame, setRow}
+use Rattle.parts.specs.Parts.{consoleIn, frameIn, nodeIn, cellIndex, setFrame, setRow}
 use Rattle.parts.specs.Sizes.{askSize, majority, tellSize}
 use Rattle.parts.specs.Tags.{compared, greater}
 use Rattle.parts.specs.declared.Release.the-variants.{One, Two}
@@ -30,7 +30,7 @@ use Rattle.guarantee.proofs.Theorem.{demand-3}
 
 -- a run with every definition opened
 whole : Setup → List Step → Run
-unfolding run start after next noted upAfter ofConsole every count greater compared member insert size onlyBelow majority askSize tellSize nodeIn consoleIn frameIn place setFrame setRow nodesAllowed consolesAllowed setupOk isZero tagOk nodeOk nodesOk restOk wantedOk waitOk stateOk markOk consoleOk consolesOk frameOk cellOk rowOk cellsOk withUp taken rests asks awaits stillAlike hears takesIn nextTag tells acked nodeAt consoleAt frameAt withNode withConsole withFrame withRow freshBoard wellFormed guarded begins ends falls rises fresh begin nodeDown nodeUp consoleDown onAsk onPut discards heard finished turned finishesEarly replied onReply acknowledged onAck onFrame delivered withSent withPart applied deliver step
+unfolding run start after next noted upAfter ofConsole every count greater compared member insert size onlyBelow majority askSize tellSize nodeIn consoleIn frameIn cellIndex setFrame setRow nodesAllowed consolesAllowed setupOk isZero tagOk nodeOk nodesOk restOk wantedOk waitOk stateOk markOk consoleOk consolesOk frameOk cellOk rowOk cellsOk withUp taken rests asks awaits stillAlike hears takesIn nextTag tells acked nodeAt consoleAt frameAt withNode withConsole withFrame withRow freshBoard wellFormed guarded begins ends falls rises fresh begin nodeDown nodeUp consoleDown onAsk onPut discards heard finished turned finishesEarly replied onReply acknowledged onAck onFrame delivered withSent withPart applied deliver step
 whole σ ss = run σ ss
 
 p4-reaches : whole (setupOf 3 2 One) p4-steps .ops ≡ p4-log

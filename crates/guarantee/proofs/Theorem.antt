@@ -3,7 +3,6 @@ use Prim.Native.Nat.{ℕ, max, _+_, _*_, _≤_}
 use mathlib.Core.Path.{ap, _≡_}
 use native.Mathlib.Omega.{arith}
 use Rattle.parts.specs.Finite.{one}
-use Rattle.parts.specs.Parts.{place}
 use Rattle.parts.specs.Sizes.{askSize, majority, tellSize}
 use Rattle.parts.specs.declared.Setup.{Setup}
 use Rattle.board.specs.declared.Board.{Board}

@@ -1,6 +1,6 @@
 -- Laws of the numbers of states and frames, and of reading and writing one part more.
 use Prim.Native.Nat.{ℕ, zero, suc, _+_, _≤_, _<_}
-use mathlib.Core.Bool.{Bool, true, false}
+use mathlib.Core.Bool.{Bool, true, false, _&&_}
 use mathlib.Core.List.{List, [], _∷_}
 use mathlib.Core.Path.{_≡_, refl}
 use native.Mathlib.Nat.{add-zero}
@@ -14,6 +14,7 @@ use Rattle.parts.specs.declared.Tag.{Tag}
 use Rattle.parts.specs.declared.Frame.the-variants.{Ack}
 use Rattle.parts.specs.declared.State.the-variants.{Down}
 use Rattle.parts.specs.declared.Console.{Console}
+use Rattle.parts.specs.Finite.{every}
 use Rattle.parts.specs.Parts.{idleConsole}
 use Rattle.layout.specs.Layout.{stateOf, frameOf, allFrom, putAll, Byte, Bytes}
 
@@ -56,3 +57,8 @@ sets-more (x ∷ u) w p zero l = rw (add-zero p)
 sets-more (x ∷ u) w p (suc i) l =
     let e : p + suc i ≡ suc p + i = omega arith in
     rw e (sets-more u (set w p x) (suc p) i (omega arith))
+
+-- a test over one number more
+pub every-step : (p : ℕ → Bool) (i : ℕ) → (every i p && p i) ≡ every (i + 1) p
+unfolding every
+every-step p i = rw add-one

@@ -17,7 +17,7 @@ use Rattle.parts.specs.Limits.{maxNodes, maxConsoles, maxCells}
 use Rattle.parts.specs.Parts.{freshNode, idleConsole, cellOf}
 use Rattle.parts.proofs.FiniteLaws.{every-of}
 use Rattle.board.specs.declared.Board.{Board}
-use Rattle.layout.specs.Layout.{Typed, setupWords, boardWords, word, nodePlace, consolePlace, cellPlace, releaseOf, nodeFrom, consoleFrom, cellFrom, allFrom, boardIn, releaseNumber, setupFields, nodeFields, consoleFields, cellFields, putNodes, putConsoles, putCells, encoded}
+use Rattle.layout.specs.Layout.{Typed, setupWords, boardWords, word, nodeOffset, consoleOffset, cellOffset, releaseOf, nodeFrom, consoleFrom, cellFrom, allFrom, boardIn, releaseNumber, setupFields, nodeFields, consoleFields, cellFields, putNodes, putConsoles, putCells, encoded}
 use Rattle.layout.specs.Standing.{releaseStands, nodeStands, consoleStands, cellStands, nodesStand, consolesStand, cellsStand, partsStand, stands, decoded}
 use Rattle.layout.specs.Claims.{ReadBack}
 use Rattle.layout.proofs.Stored.{stored-at, stored-first, all-long, all-beside, all-same, from-all}
@@ -26,13 +26,13 @@ use Rattle.layout.proofs.PartsBack.{release-back, release-stands, node-
 -- ---- writing parts keeps the length
 
 pub nodes-long : (xs : List Node) (n : ℕ) (w : List ℕ) → length (putNodes xs n w) ≡ length w
-nodes-long xs n w = all-long nodeFields node-wide nodePlace (λ k n l. omega arith) freshNode xs n w
+nodes-long xs n w = all-long nodeFields node-wide nodeOffset (λ k n l. omega arith) freshNode xs n w
 
 pub consoles-long : (xs : List Console) (n : ℕ) (w : List ℕ) → length (putConsoles xs n w) ≡ length w
-consoles-long xs n w = all-long consoleFields console-wide consolePlace (λ k n l. omega arith) idleConsole xs n w
+consoles-long xs n w = all-long consoleFields console-wide consoleOffset (λ k n l. omega arith) idleConsole xs n w
 
 pub cells-long : (xs : List Cell) (n : ℕ) (w : List ℕ) → length (putCells xs n w) ≡ length w
-cells-long xs n w = all-long cellFields cell-wide cellPlace (λ k n l. omega arith) (cellOf Nothing) xs n w
+cells-long xs n w = all-long cellFields cell-wide cellOffset (λ k n l. omega arith) (cellOf Nothing) xs n w
 
 -- ---- the board
 
@@ -63,14 +63,14 @@ module _ (w : List ℕ) (b : Board) (h : boardWords ≤ length w) (t : Typed b) 
   long-4 = cells-long (b .cells) maxCells w₃ ∙ long-3
 
   -- the cells come after the rest, the consoles after the nodes, the nodes after the setup
-  before-cells : (i : ℕ) → i < cellPlace 0 → word w₄ i ≡ word w₃ i
-  before-cells i l = all-beside cellFields cell-wide cellPlace (λ k n l. omega arith) (cellOf Nothing) (b .cells) maxCells w₃ i (inl l)
+  before-cells : (i : ℕ) → i < cellOffset 0 → word w₄ i ≡ word w₃ i
+  before-cells i l = all-beside cellFields cell-wide cellOffset (λ k n l. omega arith) (cellOf Nothing) (b .cells) maxCells w₃ i (inl l)
 
-  before-consoles : (i : ℕ) → i < consolePlace 0 → word w₄ i ≡ word w₂ i
-  before-consoles i l = before-cells i (omega arith) ∙ all-beside consoleFields console-wide consolePlace (λ k n l. omega arith) idleConsole (b .consoles) maxConsoles w₂ i (inl l)
+  before-consoles : (i : ℕ) → i < consoleOffset 0 → word w₄ i ≡ word w₂ i
+  before-consoles i l = before-cells i (omega arith) ∙ all-beside consoleFields console-wide consoleOffset (λ k n l. omega arith) idleConsole (b .consoles) maxConsoles w₂ i (inl l)
 
-  before-nodes : (i : ℕ) → i < nodePlace 0 → word w₄ i ≡ word w₁ i
-  before-nodes i l = before-consoles i (omega arith) ∙ all-beside nodeFields node-wide nodePlace (λ k n l. omega arith) freshNode (b .nodes) maxNodes w₁ i (inl l)
+  before-nodes : (i : ℕ) → i < nodeOffset 0 → word w₄ i ≡ word w₁ i
+  before-nodes i l = before-consoles i (omega arith) ∙ all-beside nodeFields node-wide nodeOffset (λ k n l. omega arith) freshNode (b .nodes) maxNodes w₁ i (inl l)
 
   -- ---- each part is read as it was, and stands
 
@@ -86,36 +86,36 @@ module _ (w : List ℕ) (b : Board) (h : boardWords ≤ length w) (t : Typed b) 
   unfolding setupFields
   release-written = before-nodes 2 (omega arith) ∙ stored-at (setupFields (b .setup)) w 0 2 (omega arith) (omega arith)
 
-  nodes-back : allFrom nodeFrom nodePlace (replicate maxNodes freshNode) maxNodes w₄ ≡ b .nodes
-  nodes-back = from-all nodeFrom nodePlace freshNode (replicate maxNodes freshNode) w₄ (b .nodes) maxNodes refl (t .nodes-long)
-      (λ k l. node-reads .alike w₄ w₂ (nodePlace k) (λ i g m. before-consoles i (omega arith))
-      ∙ all-same nodeFields node-wide nodePlace (λ k n l. omega arith) freshNode (b .nodes) node-reads maxNodes w₁ (omega (arith, long-1)) (λ k l. tt) k l)
+  nodes-back : allFrom nodeFrom nodeOffset (replicate maxNodes freshNode) maxNodes w₄ ≡ b .nodes
+  nodes-back = from-all nodeFrom nodeOffset freshNode (replicate maxNodes freshNode) w₄ (b .nodes) maxNodes refl (t .nodes-long)
+      (λ k l. node-reads .alike w₄ w₂ (nodeOffset k) (λ i g m. before-consoles i (omega arith))
+      ∙ all-same nodeFields node-wide nodeOffset (λ k n l. omega arith) freshNode (b .nodes) node-reads maxNodes w₁ (omega (arith, long-1)) (λ k l. tt) k l)
 
   nodes-stand : nodesStand w₄ ≡ true
   unfolding nodesStand
-  nodes-stand = every-of (λ k. nodeStands w₄ (nodePlace k)) maxNodes
-      (λ k l. node-standing .alike w₄ w₂ (nodePlace k) (λ i g m. before-consoles i (omega arith))
-      ∙ all-same nodeFields node-wide nodePlace (λ k n l. omega arith) freshNode (b .nodes) node-standing maxNodes w₁ (omega (arith, long-1)) (λ k l. tt) k l)
+  nodes-stand = every-of (λ k. nodeStands w₄ (nodeOffset k)) maxNodes
+      (λ k l. node-standing .alike w₄ w₂ (nodeOffset k) (λ i g m. before-consoles i (omega arith))
+      ∙ all-same nodeFields node-wide nodeOffset (λ k n l. omega arith) freshNode (b .nodes) node-standing maxNodes w₁ (omega (arith, long-1)) (λ k l. tt) k l)
 
-  consoles-back : allFrom consoleFrom consolePlace (replicate maxConsoles idleConsole) maxConsoles w₄ ≡ b .consoles
-  consoles-back = from-all consoleFrom consolePlace idleConsole (replicate maxConsoles idleConsole) w₄ (b .consoles) maxConsoles refl (t .consoles-long)
-      (λ k l. console-reads .alike w₄ w₃ (consolePlace k) (λ i g m. before-cells i (omega arith))
-      ∙ all-same consoleFields console-wide consolePlace (λ k n l. omega arith) idleConsole (b .consoles) console-reads maxConsoles w₂ (omega (arith, long-2)) (t .bytes) k l)
+  consoles-back : allFrom consoleFrom consoleOffset (replicate maxConsoles idleConsole) maxConsoles w₄ ≡ b .consoles
+  consoles-back = from-all consoleFrom consoleOffset idleConsole (replicate maxConsoles idleConsole) w₄ (b .consoles) maxConsoles refl (t .consoles-long)
+      (λ k l. console-reads .alike w₄ w₃ (consoleOffset k) (λ i g m. before-cells i (omega arith))
+      ∙ all-same consoleFields console-wide consoleOffset (λ k n l. omega arith) idleConsole (b .consoles) console-reads maxConsoles w₂ (omega (arith, long-2)) (t .bytes) k l)
 
   consoles-stand : consolesStand w₄ ≡ true
   unfolding consolesStand
-  consoles-stand = every-of (λ c. consoleStands w₄ (consolePlace c)) maxConsoles
-      (λ k l. console-standing .alike w₄ w₃ (consolePlace k) (λ i g m. before-cells i (omega arith))
-      ∙ all-same consoleFields console-wide consolePlace (λ k n l. omega arith) idleConsole (b .consoles) console-standing maxConsoles w₂ (omega (arith, long-2)) (t .bytes) k l)
+  consoles-stand = every-of (λ c. consoleStands w₄ (consoleOffset c)) maxConsoles
+      (λ k l. console-standing .alike w₄ w₃ (consoleOffset k) (λ i g m. before-cells i (omega arith))
+      ∙ all-same consoleFields console-wide consoleOffset (λ k n l. omega arith) idleConsole (b .consoles) console-standing maxConsoles w₂ (omega (arith, long-2)) (t .bytes) k l)
 
-  cells-back : allFrom cellFrom cellPlace (replicate maxCells (cellOf Nothing)) maxCells w₄ ≡ b .cells
-  cells-back = from-all cellFrom cellPlace (cellOf Nothing) (replicate maxCells (cellOf Nothing)) w₄ (b .cells) maxCells refl (t .cells-long)
-      (λ k l. all-same cellFields cell-wide cellPlace (λ k n l. omega arith) (cellOf Nothing) (b .cells) cell-reads maxCells w₃ (omega (arith, long-3)) (λ k l. tt) k l)
+  cells-back : allFrom cellFrom cellOffset (replicate maxCells (cellOf Nothing)) maxCells w₄ ≡ b .cells
+  cells-back = from-all cellFrom cellOffset (cellOf Nothing) (replicate maxCells (cellOf Nothing)) w₄ (b .cells) maxCells refl (t .cells-long)
+      (λ k l. all-same cellFields cell-wide cellOffset (λ k n l. omega arith) (cellOf Nothing) (b .cells) cell-reads maxCells w₃ (omega (arith, long-3)) (λ k l. tt) k l)
 
   cells-stand : cellsStand w₄ ≡ true
   unfolding cellsStand
-  cells-stand = every-of (λ i. cellStands w₄ (cellPlace i)) maxCells
-      (λ k l. all-same cellFields cell-wide cellPlace (λ k n l. omega arith) (cellOf Nothing) (b .cells) cell-standing maxCells w₃ (omega (arith, long-3)) (λ k l. tt) k l)
+  cells-stand = every-of (λ i. cellStands w₄ (cellOffset i)) maxCells
+      (λ k l. all-same cellFields cell-wide cellOffset (λ k n l. omega arith) (cellOf Nothing) (b .cells) cell-standing maxCells w₃ (omega (arith, long-3)) (λ k l. tt) k l)
 
   -- ---- so is the board
 

@@ -10,7 +10,7 @@ use Rattle.parts.specs.declared.Frame.the-variants.{Nothing}
 use Rattle.parts.specs.Limits.{maxNodes, maxConsoles, maxCells}
 use Rattle.parts.specs.Parts.{freshNode, idleConsole, cellOf}
 use Rattle.parts.proofs.FiniteLaws.{every-at}
-use Rattle.layout.specs.Layout.{setupWords, word, nodePlace, consolePlace, cellPlace, nodeFrom, consoleFrom, cellFrom, boardIn, setupFields, nodeFields, consoleFields, cellFields, putNodes, putConsoles, putCells, encoded}
+use Rattle.layout.specs.Layout.{setupWords, word, nodeOffset, consoleOffset, cellOffset, nodeFrom, consoleFrom, cellFrom, boardIn, setupFields, nodeFields, consoleFields, cellFields, putNodes, putConsoles, putCells, encoded}
 use Rattle.layout.specs.Standing.{nodeStands, consoleStands, cellStands, nodesStand, consolesStand, cellsStand, stands, decoded}
 use Rattle.layout.specs.Claims.{WrittenBack}
 use Rattle.layout.proofs.StandingLaws.{release-standing, nodes-standing, consoles-standing, cells-standing}
@@ -32,18 +32,18 @@ module _ (w : List ℕ) (h : stands w ≡ true) where
 
   nodes-again : putNodes (boardIn w .nodes) maxNodes w ≡ w
   unfolding boardIn nodesStand
-  nodes-again = all-again nodeFields node-wide nodePlace (λ k n l. omega arith) freshNode (boardIn w .nodes) maxNodes w
-      (λ k l. rw (from-at nodeFrom nodePlace freshNode (replicate maxNodes freshNode) w maxNodes (omega arith) k l) (node-again w (nodePlace k) (every-at (λ k. nodeStands w (nodePlace k)) maxNodes (nodes-standing w h) k l)))
+  nodes-again = all-again nodeFields node-wide nodeOffset (λ k n l. omega arith) freshNode (boardIn w .nodes) maxNodes w
+      (λ k l. rw (from-at nodeFrom nodeOffset freshNode (replicate maxNodes freshNode) w maxNodes (omega arith) k l) (node-again w (nodeOffset k) (every-at (λ k. nodeStands w (nodeOffset k)) maxNodes (nodes-standing w h) k l)))
 
   consoles-again : putConsoles (boardIn w .consoles) maxConsoles w ≡ w
   unfolding boardIn consolesStand
-  consoles-again = all-again consoleFields console-wide consolePlace (λ k n l. omega arith) idleConsole (boardIn w .consoles) maxConsoles w
-      (λ k l. rw (from-at consoleFrom consolePlace idleConsole (replicate maxConsoles idleConsole) w maxConsoles (omega arith) k l) (console-again w (consolePlace k) (every-at (λ c. consoleStands w (consolePlace c)) maxConsoles (consoles-standing w h) k l)))
+  consoles-again = all-again consoleFields console-wide consoleOffset (λ k n l. omega arith) idleConsole (boardIn w .consoles) maxConsoles w
+      (λ k l. rw (from-at consoleFrom consoleOffset idleConsole (replicate maxConsoles idleConsole) w maxConsoles (omega arith) k l) (console-again w (consoleOffset k) (every-at (λ c. consoleStands w (consoleOffset c)) maxConsoles (consoles-standing w h) k l)))
 
   cells-again : putCells (boardIn w .cells) maxCells w ≡ w
   unfolding boardIn cellsStand
-  cells-again = all-again cellFields cell-wide cellPlace (λ k n l. omega arith) (cellOf Nothing) (boardIn w .cells) maxCells w
-      (λ k l. rw (from-at cellFrom cellPlace (cellOf Nothing) (replicate maxCells (cellOf Nothing)) w maxCells (omega arith) k l) (cell-again w (cellPlace k) (every-at (λ i. cellStands w (cellPlace i)) maxCells (cells-standing w h) k l)))
+  cells-again = all-again cellFields cell-wide cellOffset (λ k n l. omega arith) (cellOf Nothing) (boardIn w .cells) maxCells w
+      (λ k l. rw (from-at cellFrom cellOffset (cellOf Nothing) (replicate maxCells (cellOf Nothing)) w maxCells (omega arith) k l) (cell-again w (cellOffset k) (every-at (λ i. cellStands w (cellOffset i)) maxCells (cells-standing w h) k l)))
 
   board-again : encoded w (boardIn w) ≡ w
   unfolding encoded

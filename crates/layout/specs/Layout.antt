@@ -40,18 +40,18 @@ consoleWords = 7
 abbrev pub cellWords : ℕ
 cellWords = 4
 
-abbrev pub nodePlace : ℕ → ℕ
-nodePlace k = setupWords + k * nodeWords
+abbrev pub nodeOffset : ℕ → ℕ
+nodeOffset k = setupWords + k * nodeWords
 
-abbrev pub consolePlace : ℕ → ℕ
-consolePlace c = nodePlace maxNodes + c * consoleWords
+abbrev pub consoleOffset : ℕ → ℕ
+consoleOffset c = nodeOffset maxNodes + c * consoleWords
 
-abbrev pub cellPlace : ℕ → ℕ
-cellPlace i = consolePlace maxConsoles + i * cellWords
+abbrev pub cellOffset : ℕ → ℕ
+cellOffset i = consoleOffset maxConsoles + i * cellWords
 
 -- the words of a board: the place past the last cell
 abbrev pub boardWords : ℕ
-boardWords = cellPlace maxCells
+boardWords = cellOffset maxCells
 
 -- the word at place i
 abbrev pub word : List ℕ → ℕ → ℕ
@@ -106,9 +106,9 @@ unfoldable pub boardIn : List ℕ → Board
 boardIn w =
     record {
       setup = record { n = word w 0; m = word w 1; release = releaseOf (word w 2) };
-      nodes = allFrom nodeFrom nodePlace (replicate maxNodes freshNode) maxNodes w;
-      consoles = allFrom consoleFrom consolePlace (replicate maxConsoles idleConsole) maxConsoles w;
-      cells = allFrom cellFrom cellPlace (replicate maxCells (cellOf Nothing)) maxCells w;
+      nodes = allFrom nodeFrom nodeOffset (replicate maxNodes freshNode) maxNodes w;
+      consoles = allFrom consoleFrom consoleOffset (replicate maxConsoles idleConsole) maxConsoles w;
+      cells = allFrom cellFrom cellOffset (replicate maxCells (cellOf Nothing)) maxCells w;
     }
 
 -- ---- writing: the fields of each part, and all of them in their places
@@ -166,13 +166,13 @@ putAll fields place d xs zero w = w
 putAll fields place d xs (suc k) w = sets (putAll fields place d xs k w) (place k) (fields (getD xs k d))
 
 abbrev pub putNodes : List Node → ℕ → List ℕ → List ℕ
-putNodes = putAll nodeFields nodePlace freshNode
+putNodes = putAll nodeFields nodeOffset freshNode
 
 abbrev pub putConsoles : List Console → ℕ → List ℕ → List ℕ
-putConsoles = putAll consoleFields consolePlace idleConsole
+putConsoles = putAll consoleFields consoleOffset idleConsole
 
 abbrev pub putCells : List Cell → ℕ → List ℕ → List ℕ
-putCells = putAll cellFields cellPlace (cellOf Nothing)
+putCells = putAll cellFields cellOffset (cellOf Nothing)
 
 -- the words with the board in the first of them
 unfoldable pub encoded : List ℕ → Board → List ℕ

@@ -9,7 +9,7 @@ use Rattle.parts.specs.Finite.{every}
 use Rattle.parts.specs.Limits.{maxNodes, maxConsoles, maxCells}
 use Rattle.board.specs.declared.Board.{Board}
 use Rattle.board.specs.Boards.{noBoard}
-use Rattle.layout.specs.Layout.{boardWords, word, nodePlace, consolePlace, cellPlace, boardIn}
+use Rattle.layout.specs.Layout.{boardWords, word, nodeOffset, consoleOffset, cellOffset, boardIn}
 
 -- a release is 1 or 2
 unfoldable pub releaseStands : ℕ → Bool
@@ -31,13 +31,13 @@ unfoldable pub cellStands : List ℕ → ℕ → Bool
 cellStands w p = frameStands (word w p) (word w (p + 1)) (word w (p + 2)) (word w (p + 3))
 
 unfoldable pub nodesStand : List ℕ → Bool
-nodesStand w = every maxNodes (λ k. nodeStands w (nodePlace k))
+nodesStand w = every maxNodes (λ k. nodeStands w (nodeOffset k))
 
 unfoldable pub consolesStand : List ℕ → Bool
-consolesStand w = every maxConsoles (λ c. consoleStands w (consolePlace c))
+consolesStand w = every maxConsoles (λ c. consoleStands w (consoleOffset c))
 
 unfoldable pub cellsStand : List ℕ → Bool
-cellsStand w = every maxCells (λ i. cellStands w (cellPlace i))
+cellsStand w = every maxCells (λ i. cellStands w (cellOffset i))
 
 unfoldable pub partsStand : List ℕ → Bool
 partsStand w = nodesStand w && consolesStand w && cellsStand w

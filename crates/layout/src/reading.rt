@@ -5,7 +5,7 @@ ghost use lib.ListN.{length, replicate};
 ghost use Rattle.parts.specs.declared.Frame.the-variants.{Nothing};
 ghost use Rattle.parts.specs.Limits.{maxNodes, maxConsoles, maxCells};
 ghost use Rattle.parts.specs.Parts.{freshNode, idleConsole, cellOf};
-ghost use Rattle.layout.specs.Layout.{nodeWords, consoleWords, cellWords, boardWords, nodePlace, consolePlace, cellPlace, releaseOf, nodeFrom, stateOf, consoleFrom, frameOf, cellFrom, allFrom, boardIn};
+ghost use Rattle.layout.specs.Layout.{nodeWords, consoleWords, cellWords, boardWords, nodeOffset, consoleOffset, cellOffset, releaseOf, nodeFrom, stateOf, consoleFrom, frameOf, cellFrom, allFrom, boardIn};
 ghost use Rattle.layout.specs.Standing.{decoded};
 use crate::CELL_WORDS;
 use crate::CELLS_AT;
@@ -111,7 +111,7 @@ fn cell_from(w: &[u32], p: usize) -> Cell
 
 fn nodes_from(w: &[u32]) -> [Node; NODES]
     requires { ⌜ boardWords ≤ length (now w) ⌝ }
-    ensures { λ r. ⌜ r ≡ allFrom nodeFrom nodePlace (replicate maxNodes freshNode) maxNodes (now (w .entry)) ⌝ }
+    ensures { λ r. ⌜ r ≡ allFrom nodeFrom nodeOffset (replicate maxNodes freshNode) maxNodes (now (w .entry)) ⌝ }
 {
     let mut nodes = [Node::FRESH; NODES];
     let mut k: usize = 0;
@@ -125,7 +125,7 @@ fn nodes_from(w: &[u32]) -> [Node; NODES]
 
 fn consoles_from(w: &[u32]) -> [Console; CONSOLES]
     requires { ⌜ boardWords ≤ length (now w) ⌝ }
-    ensures { λ r. ⌜ r ≡ allFrom consoleFrom consolePlace (replicate maxConsoles idleConsole) maxConsoles (now (w .entry)) ⌝ }
+    ensures { λ r. ⌜ r ≡ allFrom consoleFrom consoleOffset (replicate maxConsoles idleConsole) maxConsoles (now (w .entry)) ⌝ }
 {
     let mut consoles = [Console::IDLE; CONSOLES];
     let mut c: usize = 0;
@@ -139,7 +139,7 @@ fn consoles_from(w: &[u32]) -> [Console; CONSOLES]
 
 fn cells_from(w: &[u32]) -> [Cell; CELLS]
     requires { ⌜ boardWords ≤ length (now w) ⌝ }
-    ensures { λ r. ⌜ r ≡ allFrom cellFrom cellPlace (replicate maxCells (cellOf Nothing)) maxCells (now (w .entry)) ⌝ }
+    ensures { λ r. ⌜ r ≡ allFrom cellFrom cellOffset (replicate maxCells (cellOf Nothing)) maxCells (now (w .entry)) ⌝ }
 {
     let x = Cell {
         frame: Frame::Nothing,

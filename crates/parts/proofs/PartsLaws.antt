@@ -11,7 +11,7 @@ use Rattle.parts.specs.declared.Frame.{Frame}
 use Rattle.parts.specs.declared.Cell.{Cell}
 use Rattle.parts.specs.declared.Node.{Node}
 use Rattle.parts.specs.Tags.{zeroTag}
-use Rattle.parts.specs.Parts.{cellOf, freshNode, nodeIn, place, setFrame, setRow}
+use Rattle.parts.specs.Parts.{cellOf, freshNode, nodeIn, cellIndex, setFrame, setRow}
 
 -- within a list it does not matter what stands for an element beyond its end
 getD-within : {A : Type 0} (xs : List A) (i : ℕ) (d e : A) → i < length xs → getD xs i d ≡ getD xs i e
@@ -37,4 +37,4 @@ row-more xs c k f = rw add-one
 pub row-length : (xs : List Cell) (c k : ℕ) (f : Frame) → length (setRow xs c k f) ≡ length xs
 unfolding setRow setFrame
 row-length xs c zero f = refl
-row-length xs c (suc k) f = length-set (setRow xs c k f) (place c k) (cellOf f) ∙ row-length xs c k f
+row-length xs c (suc k) f = length-set (setRow xs c k f) (cellIndex c k) (cellOf f) ∙ row-length xs c k f

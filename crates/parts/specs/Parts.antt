@@ -115,14 +115,14 @@ unfoldable pub consoleIn : List Console → ℕ → Console
 consoleIn xs c = getD xs c idleConsole
 
 -- 'A cell stands for each console and node pair': it is at console times 5 plus node
-unfoldable pub place : ℕ → ℕ → ℕ
-place c k = c * maxNodes + k
+unfoldable pub cellIndex : ℕ → ℕ → ℕ
+cellIndex c k = c * maxNodes + k
 
 unfoldable pub frameIn : List Cell → ℕ → ℕ → Frame
-frameIn xs c k = getD xs (place c k) (cellOf Nothing) .frame
+frameIn xs c k = getD xs (cellIndex c k) (cellOf Nothing) .frame
 
 unfoldable pub setFrame : List Cell → ℕ → ℕ → Frame → List Cell
-setFrame xs c k f = set xs (place c k) (cellOf f)
+setFrame xs c k f = set xs (cellIndex c k) (cellOf f)
 
 -- 'All n of its cells become' f, whatever they held: console c's cells of the nodes below n
 unfoldable pub setRow : List Cell → ℕ → ℕ → Frame → List Cell

@@ -10,7 +10,7 @@ use lib.Dec.{leb}
 use lib.ListN.{getD, set}
 use Rattle.parts.proofs.FiniteLaws.{and-left, and-right}
 use Rattle.parts.specs.Finite.{every}
-use Rattle.parts.specs.Parts.{cellOf, consoleIn, frameIn, freshNode, idleConsole, nodeIn, place, setFrame, setRow}
+use Rattle.parts.specs.Parts.{cellOf, consoleIn, frameIn, freshNode, idleConsole, nodeIn, cellIndex, setFrame, setRow}
 use Rattle.parts.specs.declared.Cell.{Cell}
 use Rattle.parts.specs.declared.Console.{Console}
 use Rattle.parts.specs.declared.Frame.{Frame}
@@ -86,7 +86,7 @@ Cells σ xs = (c k : ℕ) → c < 8 → k < 5 → cellOk σ c k (frameIn xs c k)
 
 -- one frame changes
 cells-frame : (σ : Setup) (xs : List Cell) (c k : ℕ) (f : Frame) → k < 5 → cellOk σ c k f ≡ true → Cells σ xs → Cells σ (setFrame xs c k f)
-unfolding setFrame frameIn place
+unfolding setFrame frameIn cellIndex
 cells-frame σ xs c k f l p h d j e i = set-all (λ q (y : Cell). q ≡ d * 5 + j → cellOk σ d j (y .frame) ≡ true) xs (c * 5 + k) (cellOf f) (cellOf Nothing) own (λ q z. rw z (h d j e i)) (d * 5 + j) refl
   where
     own : c * 5 + k ≡ d * 5 + j → cellOk σ d j f ≡ true

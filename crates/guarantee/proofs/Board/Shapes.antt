@@ -9,7 +9,7 @@ use borrow.Author.Tests.{eqb-true, eqb-false}
 use lib.Dec.{eqb}
 use lib.ListN.{length, length-set}
 use lib.Seq.{getD-set-same, getD-set-other}
-use Rattle.parts.specs.Parts.{cellOf, consoleIn, frameIn, freshNode, idleConsole, nodeIn, place, setFrame, setRow}
+use Rattle.parts.specs.Parts.{cellOf, consoleIn, frameIn, freshNode, idleConsole, nodeIn, cellIndex, setFrame, setRow}
 use Rattle.parts.specs.declared.Cell.{Cell}
 use Rattle.parts.specs.declared.Console.{Console}
 use Rattle.parts.specs.declared.Frame.{Frame}
@@ -64,26 +64,26 @@ nodes-with b k x P z l h o j = go (eqb j k) refl
 -- ---- cells
 
 frame-set-same : (xs : List Cell) (c k : ℕ) (f : Frame) → length xs ≡ 40 → c < 8 → k < 5 → frameIn (setFrame xs c k f) c k ≡ f
-unfolding frameIn setFrame place
+unfolding frameIn setFrame cellIndex
 frame-set-same xs c k f z h i = ap (λ (x : Cell). x .frame) (getD-set-same xs (c * 5 + k) (cellOf f) (cellOf Nothing) (omega arith))
 
-frame-set-apart : (xs : List Cell) (c k d j : ℕ) (f : Frame) → place d j ≢ place c k → frameIn (setFrame xs c k f) d j ≡ frameIn xs d j
+frame-set-apart : (xs : List Cell) (c k d j : ℕ) (f : Frame) → cellIndex d j ≢ cellIndex c k → frameIn (setFrame xs c k f) d j ≡ frameIn xs d j
 unfolding frameIn setFrame
-frame-set-apart xs c k d j f h = ap (λ (x : Cell). x .frame) (getD-set-other xs (place c k) (place d j) (cellOf f) (cellOf Nothing) h)
+frame-set-apart xs c k d j f h = ap (λ (x : Cell). x .frame) (getD-set-other xs (cellIndex c k) (cellIndex d j) (cellOf f) (cellOf Nothing) h)
 
 -- another node's frame of the same row
 frame-set-beside : (xs : List Cell) (c k j : ℕ) (f : Frame) → j ≢ k → frameIn (setFrame xs c k f) c j ≡ frameIn xs c j
-unfolding place
+unfolding cellIndex
 frame-set-beside xs c k j f h = frame-set-apart xs c k c j f (omega arith)
 
 -- another console's row
 frame-set-other : (xs : List Cell) (c k d j : ℕ) (f : Frame) → d ≢ c → k < 5 → j < 5 → frameIn (setFrame xs c k f) d j ≡ frameIn xs d j
-unfolding place
+unfolding cellIndex
 frame-set-other xs c k d j f h hk hj = frame-set-apart xs c k d j f (omega arith)
 
 length-frame : (xs : List Cell) (c k : ℕ) (f : Frame) → length (setFrame xs c k f) ≡ length xs
 unfolding setFrame
-length-frame xs c k f = length-set xs (place c k) (cellOf f)
+length-frame xs c k f = length-set xs (cellIndex c k) (cellOf f)
 
 length-row : (xs : List Cell) (c n : ℕ) (f : Frame) → length (setRow xs c n f) ≡ length xs
 unfolding setRow

@@ -9,7 +9,7 @@ use native.Mathlib.Omega.{arith}
 use borrow.Author.Tests.{eqb-true, eqb-false}
 use lib.Dec.{eqb}
 use Rattle.parts.proofs.FiniteLaws.{and-left, and-right}
-use Rattle.parts.specs.Parts.{isWaiting, place}
+use Rattle.parts.specs.Parts.{isWaiting}
 use Rattle.parts.specs.declared.Setup.{Setup}
 use Rattle.board.specs.Boards.{consoleAt, nodeAt}
 use Rattle.board.specs.declared.Board.{Board}

@@ -7,7 +7,7 @@ use mathlib.Core.Path.{refl, sym, ap, _≡_, _∙_}
 use native.Mathlib.Omega.{arith}
 use Rattle.parts.proofs.FiniteLaws.{and-left, and-right}
 use Rattle.parts.specs.Finite.{one}
-use Rattle.parts.specs.Parts.{isAsking, isTelling, place, writes}
+use Rattle.parts.specs.Parts.{isAsking, isTelling, writes}
 use Rattle.parts.specs.declared.Setup.{Setup}
 use Rattle.parts.specs.declared.Tag.{Tag}
 use Rattle.board.specs.Boards.{consoleAt}

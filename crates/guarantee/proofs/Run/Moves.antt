@@ -9,7 +9,7 @@ use borrow.Author.Tests.{eqb-true, eqb-false}
 use lib.Dec.{eqb}
 use Rattle.parts.specs.AnsweredSet.{member}
 use Rattle.parts.specs.Finite.{one}
-use Rattle.parts.specs.Parts.{isAsking, isTelling, isWaiting, place, writes}
+use Rattle.parts.specs.Parts.{isAsking, isTelling, isWaiting, writes}
 use Rattle.parts.specs.declared.Outcome.{Outcome}
 use Rattle.parts.specs.declared.Outcome.the-variants.{Discarded, Done, Finished, Handed, Heard, Refused, Turned}
 use Rattle.parts.specs.declared.Setup.{Setup}

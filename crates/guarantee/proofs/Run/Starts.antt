@@ -6,7 +6,7 @@ use native.Mathlib.Omega.{arith}
 use borrow.Author.Tests.{ne-eqb, eq-eqb}
 use lib.Dec.{eqb}
 use lib.ListN.{getD, replicate}
-use Rattle.parts.specs.Parts.{cellOf, consoleIn, frameIn, freshNode, idleConsole, nodeIn, place}
+use Rattle.parts.specs.Parts.{cellOf, consoleIn, frameIn, freshNode, idleConsole, nodeIn, cellIndex}
 use Rattle.parts.specs.declared.Cell.{Cell}
 use Rattle.parts.specs.declared.Console.{Console}
 use Rattle.parts.specs.declared.Frame.the-variants.{Ask, Nothing}
@@ -168,7 +168,7 @@ module _ (σ : Setup) where
 
   fresh-frame : (c k : ℕ) → frameAt (freshBoard σ) c k ≡ Nothing
   unfolding frameAt frameIn freshBoard
-  fresh-frame c k = ap (λ (x : Cell). x .frame) (getD-replicate-same 40 (place c k) (cellOf Nothing))
+  fresh-frame c k = ap (λ (x : Cell). x .frame) (getD-replicate-same 40 (cellIndex c k) (cellOf Nothing))
 
   fresh-state : Passes σ Idle idleConsole
   unfolding stateOk restOk isZero markOk

@@ -9,7 +9,7 @@ use lib.ListN.{length, length-map}
 use lib.Seq.{set-out}
 use Rattle.parts.proofs.PartsLaws.{row-length, row-more}
 use Rattle.parts.specs.declared.Frame.{Frame}
-use Rattle.parts.specs.Parts.{cellOf, place, setFrame, setRow}
+use Rattle.parts.specs.Parts.{cellOf, cellIndex, setFrame, setRow}
 use Rattle.board.specs.declared.Board.{Board}
 use Rattle.board.specs.Applied.{withSent}
 use Rattle.board.specs.Boards.{withFrame, withRow}
@@ -32,8 +32,8 @@ enum-told c = search needs
 enum-known-sent : tie.Need-enum-known-sent Inv-loop μ-loop
 enum-known-sent c = search needs
 
-place-of-requires : tie.Need-place-of-requires Inv-loop μ-loop
-place-of-requires c κs = search needs
+cell-index-requires : tie.Need-cell-index-requires Inv-loop μ-loop
+cell-index-requires c κs = search needs
 
 mul-x : tie.Need-mul-x Inv-loop μ-loop
 mul-x c = search needs
@@ -48,8 +48,8 @@ loop-holds : tie.Need-loop-holds Inv-loop μ-loop
 unfolding setRow
 loop-holds c = search needs
 
-place-of-requires-2 : tie.Need-place-of-requires-2 Inv-loop μ-loop
-place-of-requires-2 c κs = search needs
+cell-index-requires-2 : tie.Need-cell-index-requires-2 Inv-loop μ-loop
+cell-index-requires-2 c κs = search needs
 
 mul-x-2 : tie.Need-mul-x-2 Inv-loop μ-loop
 mul-x-2 c = search needs
@@ -71,8 +71,8 @@ loop-again c =
     let a = s .before .before .args in
     let n : length (a .t1 .cells) ≡ 40 = sym (length-map (a .t1 .cells) _) ∙ s .before .before .good .0 .1 .1 .1 .1 .1 .0 .1 .0 .1 in
     ⊎-elim
-    (λ w. (omega arith, w .1 ∙ rw (l .inv .1, c .before .place-of2 .ensures, sym (row-more (a .t1 .cells) (a .c .0) (l .i) (s .sent2 .given .0 .0)))))
-    (λ w. (omega arith, w .1 ∙ l .inv .1 ∙ rw (sym (row-more (a .t1 .cells) (a .c .0) (l .i) (s .sent2 .given .0 .0)), set-out (setRow (a .t1 .cells) (a .c .0) (l .i) (s .sent2 .given .0 .0)) (place (a .c .0) (l .i)) (cellOf (s .sent2 .given .0 .0)) (omega (arith, c .before .place-of2 .ensures, row-length (a .t1 .cells) (a .c .0) (l .i) (s .sent2 .given .0 .0))))))
+    (λ w. (omega arith, w .1 ∙ rw (l .inv .1, c .before .cell-index2 .ensures, sym (row-more (a .t1 .cells) (a .c .0) (l .i) (s .sent2 .given .0 .0)))))
+    (λ w. (omega arith, w .1 ∙ l .inv .1 ∙ rw (sym (row-more (a .t1 .cells) (a .c .0) (l .i) (s .sent2 .given .0 .0)), set-out (setRow (a .t1 .cells) (a .c .0) (l .i) (s .sent2 .given .0 .0)) (cellIndex (a .c .0) (l .i)) (cellOf (s .sent2 .given .0 .0)) (omega (arith, c .before .cell-index2 .ensures, row-length (a .t1 .cells) (a .c .0) (l .i) (s .sent2 .given .0 .0))))))
     (c .if2 .came)
 
 returns : tie.Need-returns Inv-loop μ-loop
@@ -81,7 +81,7 @@ returns c = rw (c .enum-told .given .1)
 
 returns-2 : tie.Need-returns-2 Inv-loop μ-loop
 unfolding withSent withFrame setFrame
-returns-2 c = rw (c .before .before .before .sent .given .1, c .before .place-of .ensures)
+returns-2 c = rw (c .before .before .before .sent .given .1, c .before .cell-index .ensures)
 
 returns-3 : tie.Need-returns-3 Inv-loop μ-loop
 unfolding withSent withFrame setFrame
@@ -89,7 +89,7 @@ returns-3 c =
     let p = c .before .before .before in
     let a = p .before .before .args in
     let l : length (a .t1 .cells) ≡ 40 = sym (length-map (a .t1 .cells) _) ∙ p .before .before .good .0 .1 .1 .1 .1 .1 .0 .1 .0 .1 in
-    rw (p .sent .given .1, set-out (a .t1 .cells) (place (a .c .0) (a .k .0)) (cellOf (p .sent .given .0 .0)) (omega (arith, c .before .place-of .ensures)))
+    rw (p .sent .given .1, set-out (a .t1 .cells) (cellIndex (a .c .0) (a .k .0)) (cellOf (p .sent .given .0 .0)) (omega (arith, c .before .cell-index .ensures)))
 
 returns-4 : tie.Need-returns-4 Inv-loop μ-loop
 unfolding withSent withRow
@@ -107,12 +107,12 @@ with-sent-spec =
     μ-loop
     enum-told
     enum-known-sent
-    place-of-requires
+    cell-index-requires
     mul-x
     element-set-from-x
     enum-known-sent-2
     loop-holds
-    place-of-requires-2
+    cell-index-requires-2
     mul-x-2
     element-set-from-x-2
     add-i

@@ -5,7 +5,7 @@ use native.Mathlib.Omega.{arith}
 use borrow.Author.Needs.{needs}
 use lib.ListN.{replicate}
 use Rattle.layout.proofs.LayoutLaws.{from-more}
-use Rattle.layout.specs.Layout.{cellPlace, cellFrom, allFrom}
+use Rattle.layout.specs.Layout.{cellOffset, cellFrom, allFrom}
 use Rattle.parts.specs.Limits.{maxCells}
 use Rattle.parts.specs.Parts.{cellOf}
 use Rattle.parts.specs.declared.Frame.the-variants.{Nothing}
@@ -13,7 +13,7 @@ use Rattle.layout.proofs.reading.cells_from.Statement.{statement}
 use Rattle.layout.proofs.reading.cells_from.Tie as tie
 
 abbrev Inv-loop : tie.InvT-loop
-Inv-loop w cells₀ i₀ cells i = (i ≤ maxCells) × (cells ≡ allFrom cellFrom cellPlace (replicate maxCells (cellOf Nothing)) i w)
+Inv-loop w cells₀ i₀ cells i = (i ≤ maxCells) × (cells ≡ allFrom cellFrom cellOffset (replicate maxCells (cellOf Nothing)) i w)
 
 abbrev μ-loop : tie.MeasureT-loop
 μ-loop w cells₀ i₀ cells i = maxCells - i

@@ -5,14 +5,14 @@ use native.Mathlib.Omega.{arith}
 use borrow.Author.Needs.{needs}
 use lib.ListN.{replicate}
 use Rattle.layout.proofs.LayoutLaws.{from-more}
-use Rattle.layout.specs.Layout.{consolePlace, consoleFrom, allFrom}
+use Rattle.layout.specs.Layout.{consoleOffset, consoleFrom, allFrom}
 use Rattle.parts.specs.Limits.{maxConsoles}
 use Rattle.parts.specs.Parts.{idleConsole}
 use Rattle.layout.proofs.reading.consoles_from.Statement.{statement}
 use Rattle.layout.proofs.reading.consoles_from.Tie as tie
 
 abbrev Inv-loop : tie.InvT-loop
-Inv-loop w consoles₀ c₀ consoles c = (c ≤ maxConsoles) × (consoles ≡ allFrom consoleFrom consolePlace (replicate maxConsoles idleConsole) c w)
+Inv-loop w consoles₀ c₀ consoles c = (c ≤ maxConsoles) × (consoles ≡ allFrom consoleFrom consoleOffset (replicate maxConsoles idleConsole) c w)
 
 abbrev μ-loop : tie.MeasureT-loop
 μ-loop w consoles₀ c₀ consoles c = maxConsoles - c

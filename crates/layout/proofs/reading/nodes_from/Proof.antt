@@ -5,14 +5,14 @@ use native.Mathlib.Omega.{arith}
 use borrow.Author.Needs.{needs}
 use lib.ListN.{replicate}
 use Rattle.layout.proofs.LayoutLaws.{from-more}
-use Rattle.layout.specs.Layout.{nodePlace, nodeFrom, allFrom}
+use Rattle.layout.specs.Layout.{nodeOffset, nodeFrom, allFrom}
 use Rattle.parts.specs.Limits.{maxNodes}
 use Rattle.parts.specs.Parts.{freshNode}
 use Rattle.layout.proofs.reading.nodes_from.Statement.{statement}
 use Rattle.layout.proofs.reading.nodes_from.Tie as tie
 
 abbrev Inv-loop : tie.InvT-loop
-Inv-loop w nodes₀ k₀ nodes k = (k ≤ maxNodes) × (nodes ≡ allFrom nodeFrom nodePlace (replicate maxNodes freshNode) k w)
+Inv-loop w nodes₀ k₀ nodes k = (k ≤ maxNodes) × (nodes ≡ allFrom nodeFrom nodeOffset (replicate maxNodes freshNode) k w)
 
 abbrev μ-loop : tie.MeasureT-loop
 μ-loop w nodes₀ k₀ nodes k = maxNodes - k

@@ -1,25 +1,25 @@
--- Invariant: each console below c stands. One that does not, or the end of the list, decides.
-use mathlib.Core.Bool.{true}
+-- Invariant: ok says whether each console below c stands.
 use mathlib.Core.Path.{_≡_, sym}
 use Prim.Native.Nat.{_≤_, _-_}
 use native.Mathlib.Omega.{arith}
 use borrow.Author.Needs.{needs}
-use Rattle.parts.proofs.FiniteLaws.{said-no, said-yes, every-none, every-more, every-fails, every-done}
+use Rattle.layout.proofs.LayoutLaws.{every-step}
+use Rattle.parts.proofs.FiniteLaws.{every-none}
 use Rattle.parts.specs.Finite.{every}
 use Rattle.parts.specs.Limits.{maxConsoles}
-use Rattle.layout.specs.Layout.{consolePlace}
+use Rattle.layout.specs.Layout.{consoleOffset}
 use Rattle.layout.specs.Standing.{consoleStands, consolesStand}
 use Rattle.layout.proofs.standing.consoles_stand.Statement.{statement}
 use Rattle.layout.proofs.standing.consoles_stand.Tie as tie
 
 abbrev Inv-loop : tie.InvT-loop
-Inv-loop w c₀ c = (c ≤ maxConsoles) × (every c (λ c. consoleStands w (consolePlace c)) ≡ true)
+Inv-loop w ok₀ c₀ ok c = (c ≤ maxConsoles) × (ok ≡ every c (λ c. consoleStands w (consoleOffset c)))
 
 abbrev μ-loop : tie.MeasureT-loop
-μ-loop w c₀ c = maxConsoles - c
+μ-loop w ok₀ c₀ ok c = maxConsoles - c
 
 loop-holds : tie.Need-loop-holds Inv-loop μ-loop
-loop-holds c = (search needs, every-none _)
+loop-holds c = (search needs, sym (every-none _))
 
 mul-console-stands : tie.Need-mul-console-stands Inv-loop μ-loop
 mul-console-stands c = search needs
@@ -30,10 +30,6 @@ add-console-stands c = search needs
 console-stands-requires : tie.Need-console-stands-requires Inv-loop μ-loop
 console-stands-requires c κs = search needs
 
-returns : tie.Need-returns Inv-loop μ-loop
-unfolding consolesStand
-returns c = sym (every-fails _ _ _ (c .before .before .loop-test .taken) (said-no (c .before .console-stands .ensures) (c .if1 .taken)))
-
 add-c : tie.Need-add-c Inv-loop μ-loop
 add-c c = search needs
 
@@ -41,11 +37,13 @@ loop-less : tie.Need-loop-less Inv-loop μ-loop
 loop-less c = search needs
 
 loop-again : tie.Need-loop-again Inv-loop μ-loop
-loop-again c = (search needs, every-more _ _ (c .before .before .before .loop .inv .1) (said-yes (c .before .console-stands .ensures) (c .if1 .left)))
+loop-again c = (search needs, rw (c .before .before .loop .inv .1, c .console-stands .ensures) (every-step _ _))
 
-returns-2 : tie.Need-returns-2 Inv-loop μ-loop
+returns : tie.Need-returns Inv-loop μ-loop
 unfolding consolesStand
-returns-2 c = sym (every-done _ _ _ (c .before .loop .inv .0) (c .loop-test .left) (c .before .loop .inv .1))
+returns c =
+    let e : c .before .loop .c ≡ maxConsoles = omega arith in
+    rw e at (c .before .loop .inv .1)
 
 pub consoles-stand-spec : {M : Type 1} → statement M
 consoles-stand-spec =
@@ -57,8 +55,7 @@ consoles-stand-spec =
     mul-console-stands
     add-console-stands
     console-stands-requires
-    returns
     add-c
     loop-less
     loop-again
-    returns-2)
+    returns)

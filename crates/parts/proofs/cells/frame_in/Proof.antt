@@ -8,12 +8,12 @@ use Rattle.parts.specs.Parts.{frameIn}
 use Rattle.parts.proofs.cells.frame_in.Statement.{statement}
 use Rattle.parts.proofs.cells.frame_in.Tie as tie
 
-place-of-requires : tie.Need-place-of-requires
-place-of-requires c κs = search needs
+cell-index-requires : tie.Need-cell-index-requires
+cell-index-requires c κs = search needs
 
 returns : tie.Need-returns
 unfolding frameIn
-returns c = sym (ap (λ (x : Cell). x .frame) (List·getD-eq-default (c .before .before .args .t1) _ (omega (arith, c .before .place-of .ensures))))
+returns c = sym (ap (λ (x : Cell). x .frame) (List·getD-eq-default (c .before .before .args .t1) _ (omega (arith, c .before .cell-index .ensures))))
 
 mul-x : tie.Need-mul-x
 mul-x c = search needs
@@ -23,7 +23,7 @@ array-copy-out-x c = search needs
 
 returns-2 : tie.Need-returns-2
 unfolding frameIn
-returns-2 c = rw (c .before .before .place-of .ensures)
+returns-2 c = rw (c .before .before .cell-index .ensures)
 
 pub frame-in-spec : {M : Type 1} → statement M
-frame-in-spec = tie.close (tie.spec place-of-requires returns mul-x array-copy-out-x returns-2)
+frame-in-spec = tie.close (tie.spec cell-index-requires returns mul-x array-copy-out-x returns-2)

@@ -8,7 +8,7 @@ use borrow.Author.Needs.{needs}
 use Rattle.parts.proofs.FiniteLaws.{said-no, said-yes, every-none, every-more, every-fails, every-done}
 use Rattle.parts.specs.Finite.{every}
 use Rattle.parts.specs.Limits.{maxConsoles, maxNodes}
-use Rattle.parts.specs.Parts.{place, frameIn}
+use Rattle.parts.specs.Parts.{cellIndex, frameIn}
 use Rattle.well_formed.specs.Clauses.{cellOk, rowOk, cellsOk}
 use Rattle.well_formed.proofs.cells.are_cells_ok.Statement.{statement}
 use Rattle.well_formed.proofs.cells.are_cells_ok.Tie as tie
@@ -41,7 +41,7 @@ is-cell-ok-requires : tie.Need-is-cell-ok-requires Inv-loop μ-loop
 is-cell-ok-requires c κs = search needs
 
 returns : tie.Need-returns Inv-loop μ-loop
-unfolding cellsOk rowOk frameIn place
+unfolding cellsOk rowOk frameIn cellIndex
 returns c = sym (every-fails _ _ _ (c .before .before .before .loop-test .taken) (every-fails _ _ _ (c .before .before .before .before .loop .inv .1) (said-no (c .before .is-cell-ok .ensures) (c .if1 .taken))))
 
 add-k : tie.Need-add-k Inv-loop μ-loop
@@ -54,7 +54,7 @@ loop-less : tie.Need-loop-less Inv-loop μ-loop
 loop-less c = search needs
 
 loop-again : tie.Need-loop-again Inv-loop μ-loop
-unfolding rowOk frameIn place
+unfolding rowOk frameIn cellIndex
 loop-again c = (
   search needs,
   search needs,
@@ -67,7 +67,7 @@ loop-less-2 : tie.Need-loop-less-2 Inv-loop μ-loop
 loop-less-2 c = search needs
 
 loop-again-2 : tie.Need-loop-again-2 Inv-loop μ-loop
-unfolding frameIn place
+unfolding frameIn cellIndex
 loop-again-2 c = (search needs, search needs, c .before .before .before .before .before .loop .inv .2, every-more _ _ (c .before .before .before .before .before .loop .inv .3) (said-yes (c .before .before .is-cell-ok .ensures) (c .before .if1 .left)))
 
 returns-2 : tie.Need-returns-2 Inv-loop μ-loop

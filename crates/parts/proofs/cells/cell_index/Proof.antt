@@ -1,8 +1,8 @@
 -- The code is the definition; two numbers of 32 bits leave room in 64.
 use borrow.Author.Needs.{needs}
-use Rattle.parts.specs.Parts.{place}
-use Rattle.parts.proofs.cells.place_of.Statement.{statement}
-use Rattle.parts.proofs.cells.place_of.Tie as tie
+use Rattle.parts.specs.Parts.{cellIndex}
+use Rattle.parts.proofs.cells.cell_index.Statement.{statement}
+use Rattle.parts.proofs.cells.cell_index.Tie as tie
 
 cast-result : tie.Need-cast-result
 cast-result c = search needs
@@ -17,8 +17,8 @@ add-result : tie.Need-add-result
 add-result c = search needs
 
 returns : tie.Need-returns
-unfolding place
+unfolding cellIndex
 returns c = search needs
 
-pub place-of-spec : {M : Type 1} → statement M
-place-of-spec = tie.close (tie.spec cast-result mul-result cast-result-2 add-result returns)
+pub cell-index-spec : {M : Type 1} → statement M
+cell-index-spec = tie.close (tie.spec cast-result mul-result cast-result-2 add-result returns)
