@@ -23,7 +23,7 @@ use Rattle.parts.specs.declared.Console.{Console}
 use Rattle.parts.specs.Finite.{one}
 use Rattle.parts.proofs.FiniteLaws.{and-left, and-right}
 use Rattle.layout.specs.Layout.{Byte, word, nodeWords, consoleWords, cellWords, tagOf, releaseOf, nodeFrom, stateOf, consoleFrom, frameOf, cellFrom, releaseNumber, nodeFields, stateNumber, consoleFields, frameNumber, frameTag, frameValue, cellFields}
-use Rattle.layout.specs.Standing.{releaseStands, nodeStands, consoleStands, frameStands, cellStands}
+use Rattle.layout.specs.Standing.{lastState, lastFrame, lastSet, lastMark, releaseStands, nodeStands, consoleStands, frameStands, cellStands}
 use Rattle.layout.proofs.Stored.{Reads, stored-at, stored-first, stored-again}
 
 -- ---- marks and releases
@@ -32,14 +32,14 @@ flag-back : (u : Bool) → not (eqb (one u) 0) ≡ u
 flag-back true = refl
 flag-back false = refl
 
-flag-stands : (u : Bool) → leb (one u) 1 ≡ true
+flag-stands : (u : Bool) → leb (one u) lastMark ≡ true
 flag-stands true = refl
 flag-stands false = refl
 
-flag-again : (x : ℕ) → leb x 1 ≡ true → one (not (eqb x 0)) ≡ x
+flag-again : (x : ℕ) → leb x lastMark ≡ true → one (not (eqb x 0)) ≡ x
 flag-again zero h = refl
 flag-again (suc zero) h = refl
-flag-again (suc (suc x)) h = absurd (omega (arith, leb-true (suc (suc x)) 1 h))
+flag-again (suc (suc x)) h = absurd (omega (arith, leb-true (suc (suc x)) lastMark h))
 
 pub release-back : (e : Release) → releaseOf (releaseNumber e) ≡ e
 unfolding releaseOf releaseNumber
@@ -110,7 +110,7 @@ state-back (Telling Read) = refl
 state-back (Telling Write) = refl
 state-back Down = refl
 
-state-stands : (s : State) → leb (stateNumber s) 5 ≡ true
+state-stands : (s : State) → leb (stateNumber s) lastState ≡ true
 unfolding stateNumber
 state-stands Idle = refl
 state-stands (Asking Read) = refl
@@ -119,7 +119,7 @@ state-stands (Telling Read) = refl
 state-stands (Telling Write) = refl
 state-stands Down = refl
 
-state-again : (i : ℕ) → leb i 5 ≡ true → stateNumber (stateOf i) ≡ i
+state-again : (i : ℕ) → leb i lastState ≡ true → stateNumber (stateOf i) ≡ i
 unfolding stateNumber stateOf
 state-again zero h = refl
 state-again (suc zero) h = refl
@@ -127,7 +127,7 @@ state-again (suc (suc zero)) h = refl
 state-again (suc (suc (suc zero))) h = refl
 state-again (suc (suc (suc (suc zero)))) h = refl
 state-again (suc (suc (suc (suc (suc zero))))) h = refl
-state-again (suc (suc (suc (suc (suc (suc i)))))) h = absurd (omega (arith, leb-true (suc (suc (suc (suc (suc (suc i)))))) 5 h))
+state-again (suc (suc (suc (suc (suc (suc i)))))) h = absurd (omega (arith, leb-true (suc (suc (suc (suc (suc (suc i)))))) lastState h))
 
 set-back : (x : ℕ) → x < 256 → x % 256 ≡ x
 set-back x h = omega arith
@@ -162,7 +162,7 @@ console-standing = record {
     stored-at (consoleFields x) w p 2 h (omega arith),
     stored-at (consoleFields x) w p 6 h (omega arith),
     state-stands (x .state),
-    le-leb (x .answered) 255 (omega arith),
+    le-leb (x .answered) lastSet (omega arith),
     flag-stands (x .alike),
   );
   alike = λ w v p h. rw (h p (omega arith) (omega arith), h (p + 2) (omega arith) (omega arith), h (p + 6) (omega arith) (omega arith));
@@ -172,17 +172,17 @@ pub console-again : (w : List ℕ) (p : ℕ) → consoleStands w p ≡ true → 
 unfolding consoleFields consoleFrom consoleStands
 console-again w p h = stored-again (consoleFields (consoleFrom w p)) w p fields
   where
-    two : (leb (word w p) 5 && leb (word w (p + 2)) 255) ≡ true
-    two = and-left (leb (word w p) 5 && leb (word w (p + 2)) 255) (leb (word w (p + 6)) 1) h
+    two : (leb (word w p) lastState && leb (word w (p + 2)) lastSet) ≡ true
+    two = and-left (leb (word w p) lastState && leb (word w (p + 2)) lastSet) (leb (word w (p + 6)) lastMark) h
 
     fields : (k : ℕ) → k < consoleWords → getD (consoleFields (consoleFrom w p)) k 0 ≡ word w (p + k)
-    fields zero l = rw (add-zero p) (state-again (word w p) (and-left (leb (word w p) 5) (leb (word w (p + 2)) 255) two))
+    fields zero l = rw (add-zero p) (state-again (word w p) (and-left (leb (word w p) lastState) (leb (word w (p + 2)) lastSet) two))
     fields (suc zero) l = refl
-    fields (suc (suc zero)) l = set-back (word w (p + 2)) (omega (arith, leb-true (word w (p + 2)) 255 (and-right (leb (word w p) 5) (leb (word w (p + 2)) 255) two)))
+    fields (suc (suc zero)) l = set-back (word w (p + 2)) (omega (arith, leb-true (word w (p + 2)) lastSet (and-right (leb (word w p) lastState) (leb (word w (p + 2)) lastSet) two)))
     fields (suc (suc (suc zero))) l = refl
     fields (suc (suc (suc (suc zero)))) l = refl
     fields (suc (suc (suc (suc (suc zero))))) l = refl
-    fields (suc (suc (suc (suc (suc (suc zero)))))) l = flag-again (word w (p + 6)) (and-right (leb (word w p) 5 && leb (word w (p + 2)) 255) (leb (word w (p + 6)) 1) h)
+    fields (suc (suc (suc (suc (suc (suc zero)))))) l = flag-again (word w (p + 6)) (and-right (leb (word w p) lastState && leb (word w (p + 2)) lastSet) (leb (word w (p + 6)) lastMark) h)
     fields (suc (suc (suc (suc (suc (suc (suc k))))))) l = absurd (omega arith)
 
 -- ---- cells
@@ -260,7 +260,7 @@ frame-again (suc (suc (suc zero))) t c v h = record { number = refl; ts = refl; 
 frame-again (suc (suc (suc (suc zero)))) t c v h =
     let z = zeros t c v h in
     record { number = refl; ts = sym (z .0); console = sym (z .1); value = sym (z .2) }
-frame-again (suc (suc (suc (suc (suc f))))) t c v h = absurd (omega (arith, leb-true (suc (suc (suc (suc (suc f))))) 4 (and-left (leb (suc (suc (suc (suc (suc f))))) 4) (eqb (suc (suc (suc (suc (suc f))))) 2 || eqb (suc (suc (suc (suc (suc f))))) 3 || (eqb t 0 && eqb c 0 && eqb v 0)) h)))
+frame-again (suc (suc (suc (suc (suc f))))) t c v h = absurd (omega (arith, leb-true (suc (suc (suc (suc (suc f))))) lastFrame (and-left (leb (suc (suc (suc (suc (suc f))))) lastFrame) (eqb (suc (suc (suc (suc (suc f))))) 2 || eqb (suc (suc (suc (suc (suc f))))) 3 || (eqb t 0 && eqb c 0 && eqb v 0)) h)))
 
 pub cell-again : (w : List ℕ) (p : ℕ) → cellStands w p ≡ true → sets w p (cellFields (cellFrom w p)) ≡ w
 unfolding cellFields cellFrom cellStands

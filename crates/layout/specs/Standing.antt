@@ -11,21 +11,33 @@ use Rattle.board.specs.declared.Board.{Board}
 use Rattle.board.specs.Boards.{noBoard}
 use Rattle.layout.specs.Layout.{boardWords, word, nodeOffset, consoleOffset, cellOffset, boardIn}
 
+-- the last number of a state, of a frame, of a set and of a mark
+abbrev pub lastState : ℕ
+lastState = 5
+
+abbrev pub lastFrame : ℕ
+lastFrame = 4
+
+abbrev pub lastSet : ℕ
+lastSet = 255
+
+abbrev pub lastMark : ℕ
+lastMark = 1
+
 -- a release is 1 or 2
 unfoldable pub releaseStands : ℕ → Bool
 releaseStands i = eqb i 1 || eqb i 2
 
--- up is 0 or 1
+-- up is a mark
 unfoldable pub nodeStands : List ℕ → ℕ → Bool
-nodeStands w p = leb (word w p) 1
+nodeStands w p = leb (word w p) lastMark
 
--- there are six states, a set is a byte, and the mark is 0 or 1
 unfoldable pub consoleStands : List ℕ → ℕ → Bool
-consoleStands w p = leb (word w p) 5 && leb (word w (p + 2)) 255 && leb (word w (p + 6)) 1
+consoleStands w p = leb (word w p) lastState && leb (word w (p + 2)) lastSet && leb (word w (p + 6)) lastMark
 
--- there are five frames; beside one without a tag, that is neither reply nor put, all is 0
+-- beside a frame without a tag, that is neither reply nor put, all is 0
 unfoldable pub frameStands : ℕ → ℕ → ℕ → ℕ → Bool
-frameStands f t c v = leb f 4 && (eqb f 2 || eqb f 3 || (eqb t 0 && eqb c 0 && eqb v 0))
+frameStands f t c v = leb f lastFrame && (eqb f 2 || eqb f 3 || (eqb t 0 && eqb c 0 && eqb v 0))
 
 unfoldable pub cellStands : List ℕ → ℕ → Bool
 cellStands w p = frameStands (word w p) (word w (p + 1)) (word w (p + 2)) (word w (p + 3))

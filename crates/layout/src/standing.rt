@@ -16,6 +16,15 @@ use parts::CELLS;
 use parts::CONSOLES;
 use parts::NODES;
 
+// The last number of a state, of a frame, of a set and of a mark.
+const LAST_STATE: u32 = 5;
+
+const LAST_FRAME: u32 = 4;
+
+const LAST_SET: u32 = 255;
+
+const LAST_MARK: u32 = 1;
+
 fn release_stands(i: u32) -> bool
     ensures { λ r. ⌜ r ≡ releaseStands i ⌝ }
 {
@@ -26,20 +35,20 @@ fn node_stands(w: &[u32], p: usize) -> bool
     requires { ⌜ p + nodeWords ≤ length (now w) ⌝ }
     ensures { λ r. ⌜ r ≡ nodeStands (now (w .entry)) p ⌝ }
 {
-    w[p] <= 1
+    w[p] <= LAST_MARK
 }
 
 fn console_stands(w: &[u32], p: usize) -> bool
     requires { ⌜ p + consoleWords ≤ length (now w) ⌝ }
     ensures { λ r. ⌜ r ≡ consoleStands (now (w .entry)) p ⌝ }
 {
-    (w[p] <= 5) & (w[p + 2] <= 255) & (w[p + 6] <= 1)
+    (w[p] <= LAST_STATE) & (w[p + 2] <= LAST_SET) & (w[p + 6] <= LAST_MARK)
 }
 
 fn frame_stands(f: u32, ts: u32, console: u32, value: u32) -> bool
     ensures { λ r. ⌜ r ≡ frameStands f ts console value ⌝ }
 {
-    (f <= 4) & ((f == 2) | (f == 3) | ((ts == 0) & (console == 0) & (value == 0)))
+    (f <= LAST_FRAME) & ((f == 2) | (f == 3) | ((ts == 0) & (console == 0) & (value == 0)))
 }
 
 fn cell_stands(w: &[u32], p: usize) -> bool
