@@ -3,7 +3,7 @@ use Prim.Native.String.{String}
 use mathlib.Core.List.{List, [], _∷_, map}
 use mathlib.Core.Path.{_≡_, refl}
 use Rattle.csv.specs.Quoted.{bytes}
-use Rattle.csv.specs.Splitting.{chop, linesAfter, linesOf}
+use Rattle.csv.specs.Splitting.{chop, linesAfter, linesOf, heldBytes}
 
 pub record Example : Type 0 where
   pub input : String
@@ -28,3 +28,6 @@ examples =
 pub inputs-cut : map (λ x. linesOf (bytes (x .input))) examples ≡ map (λ x. map bytes (x .must)) examples
 unfolding bytes chop linesAfter examples
 inputs-cut = refl
+
+pub held-bytes : heldBytes ≡ 66
+held-bytes = refl

@@ -2,17 +2,17 @@
 -- put_number goes by decimal-one and decimal-more.
 use mathlib.Core.Path.{_≡_, refl, sym, ap, _∙_}
 use mathlib.Core.Bool.{Bool, true, false}
-use mathlib.Core.List.{List, [], _∷_, _++_, append-assoc}
+use mathlib.Core.List.{List, [], _∷_, _++_, append-assoc, append-nil}
 use Prim.Native.Nat.{ℕ, zero, suc, _+_, _*_, _/_, _^_, _≤_, _<_}
+use native.Mathlib.Numerals.{add-one}
 use native.Mathlib.Omega.{arith}
 use lib.Dec.{ltb}
-use lib.ListN.{length, set, length-append}
-use lib.Seq.{sets}
+use lib.ListN.{length, getD, set, drop, length-append, drop-of-length-le}
+use lib.Seq.{sets, drop-cons}
 use borrow.Author.Tests.{lt-ltb, le-ltb, ltb-true, ltb-false}
 use Rattle.csv.specs.Reading.{commaByte, lfByte}
-use Rattle.csv.specs.declared.Row.{Row}
 use Rattle.csv.proofs.SetsLaws.{sets-snoc, sets-sets}
-use Rattle.csv.specs.Writing.{numberBytes, wordBytes, digitOf, digits, decimal, fieldText, joined, lineText}
+use Rattle.csv.specs.Writing.{numberBytes, fieldBytes, digitOf, digits, decimal, joined, fieldText, fieldsText, ended}
 
 -- ---- the digits of a number
 
@@ -99,79 +99,60 @@ put-one l at n d h e = rw (decimal-one n h, e)
 pub put-more : (l : List ℕ) (at n d next : ℕ) → 10 ≤ n → n < 2 ^ 64 → d ≡ digitOf n → next ≡ at + length (decimal (n / 10)) → set (sets l at (decimal (n / 10))) next d ≡ sets l at (decimal n)
 put-more l at n d next h g e f = rw (decimal-more n h g, e, f) (sym (sets-snoc l at (decimal (n / 10)) (digitOf n)))
 
-pub put-end : (l : List ℕ) (at n e next : ℕ) → next ≡ at + length (decimal n) → set (sets l at (decimal n)) next e ≡ sets l at (fieldText n e)
-put-end l at n e next f = rw f (sym (sets-snoc l at (decimal n) e))
+-- ---- a field
 
--- ---- how long a field is
-
-pub field-length : (n e : ℕ) → length (fieldText n e) ≡ length (decimal n) + 1
-field-length n e = length-snoc (decimal n) e
-
-pub field-short : (n e : ℕ) → length (fieldText n e) ≤ numberBytes
+pub field-short : (n : ℕ) → n < 2 ^ 32 → length (fieldText n) ≤ fieldBytes
 unfolding decimal
-field-short n e = omega (arith, field-length n e, at-most 20 n)
+field-short n h = omega (arith, few 9 numberBytes n (omega arith))
 
-pub field-short-32 : (n e : ℕ) → n < 2 ^ 32 → length (fieldText n e) ≤ wordBytes
+pub number-short : (n : ℕ) → length (decimal n) ≤ numberBytes
 unfolding decimal
-field-short-32 n e h = omega (arith, field-length n e, few 9 20 n (omega arith))
+number-short n = at-most numberBytes n
+
+-- a comma, and the digits at the place after it
+pub put-comma : (l : List ℕ) (at next n : ℕ) → next ≡ at + 1 → sets (set l at commaByte) next (decimal n) ≡ sets l at (fieldText n)
+put-comma l at next n e = sets-sets l at next (commaByte ∷ []) (decimal n) e
+
+-- ---- fields, one after the other
+
+module _ (ns : List ℕ) (i : ℕ) where
+  -- from field i on there is that field and what follows it
+  module _ (h : i < length ns) where
+    from-one : fieldsText (drop i ns) ≡ fieldText (getD ns i 0) ++ fieldsText (drop (i + 1) ns)
+    unfolding fieldsText
+    from-one = rw (add-one, drop-cons ns i 0 h)
+
+    pub fields-put : (l : List ℕ) (at next : ℕ) → next ≡ at + length (fieldText (getD ns i 0))
+        → sets (sets l at (fieldText (getD ns i 0))) next (fieldsText (drop (i + 1) ns)) ≡ sets l at (fieldsText (drop i ns))
+    fields-put l at next e = sets-sets l at next (fieldText (getD ns i 0)) (fieldsText (drop (i + 1) ns)) e ∙ ap (sets l at) (sym from-one)
+
+    pub fields-length : length (fieldsText (drop i ns)) ≡ length (fieldText (getD ns i 0)) + length (fieldsText (drop (i + 1) ns))
+    fields-length = ap length from-one ∙ length-append (fieldText (getD ns i 0)) (fieldsText (drop (i + 1) ns))
+
+  pub fields-end : length ns ≤ i → fieldsText (drop i ns) ≡ []
+  unfolding fieldsText
+  fields-end h = rw (drop-of-length-le ns h)
 
 -- ---- a line
 
--- joined fields, and what follows them
-joined-more : (n m : ℕ) (ns e : List ℕ) → joined (n ∷ m ∷ ns) ++ e ≡ fieldText n commaByte ++ (joined (m ∷ ns) ++ e)
-unfolding joined
-joined-more n m ns e = append-assoc (decimal n) (commaByte ∷ joined (m ∷ ns)) e ∙ sym (append-assoc (decimal n) (commaByte ∷ []) (joined (m ∷ ns) ++ e))
+joined-fields : (n : ℕ) (ns : List ℕ) → joined (n ∷ ns) ≡ decimal n ++ fieldsText ns
+unfolding joined fieldsText
+joined-fields n [] = sym (append-nil (decimal n))
+joined-fields n (m ∷ ns) = ap (λ (l : List ℕ). decimal n ++ commaByte ∷ l) (joined-fields m ns)
 
--- a row's fields, each with the byte that ends it
-module _ (r : Row) where
-  abbrev pub numberText : List ℕ
-  numberText = fieldText (r .number) commaByte
+module _ (n : ℕ) (ns : List ℕ) where
+  line-parts : ended (n ∷ ns) ≡ decimal n ++ (fieldsText ns ++ lfByte ∷ [])
+  line-parts = ap (λ (l : List ℕ). l ++ lfByte ∷ []) (joined-fields n ns) ∙ append-assoc (decimal n) (fieldsText ns) (lfByte ∷ [])
 
-  abbrev pub refusalText : List ℕ
-  refusalText = fieldText (r .refusal) commaByte
-
-  abbrev pub outcomeText : List ℕ
-  outcomeText = fieldText (r .outcome) commaByte
-
-  abbrev pub tsText : List ℕ
-  tsText = fieldText (r .ts) commaByte
-
-  abbrev pub consoleText : List ℕ
-  consoleText = fieldText (r .console) commaByte
-
-  abbrev pub valueText : List ℕ
-  valueText = fieldText (r .value) lfByte
-
-  pub line-fields : lineText r ≡ numberText ++ (refusalText ++ (outcomeText ++ (tsText ++ (consoleText ++ valueText))))
-  unfolding lineText joined
-  line-fields =
-      rw (
-        joined-more (r .number) (r .refusal) (r .outcome ∷ r .ts ∷ r .console ∷ r .value ∷ []) (lfByte ∷ []),
-        joined-more (r .refusal) (r .outcome) (r .ts ∷ r .console ∷ r .value ∷ []) (lfByte ∷ []),
-        joined-more (r .outcome) (r .ts) (r .console ∷ r .value ∷ []) (lfByte ∷ []),
-        joined-more (r .ts) (r .console) (r .value ∷ []) (lfByte ∷ []),
-        joined-more (r .console) (r .value) [] (lfByte ∷ []),
-      )
-
-  pub line-length : length (lineText r) ≡ length numberText + length refusalText + length outcomeText + length tsText + length consoleText + length valueText
+  pub line-length : length (ended (n ∷ ns)) ≡ length (decimal n) + length (fieldsText ns) + 1
   line-length =
-      omega (
-        arith,
-        ap length line-fields,
-        length-append numberText (refusalText ++ (outcomeText ++ (tsText ++ (consoleText ++ valueText)))),
-        length-append refusalText (outcomeText ++ (tsText ++ (consoleText ++ valueText))),
-        length-append outcomeText (tsText ++ (consoleText ++ valueText)),
-        length-append tsText (consoleText ++ valueText),
-        length-append consoleText valueText,
-      )
+      let parts = length-append (decimal n) (fieldsText ns ++ lfByte ∷ []) in
+      omega (arith, ap length line-parts, parts, length-snoc (fieldsText ns) lfByte)
 
-  -- six writes, each at the place after the one before it
-  pub line-writes : (l : List ℕ) (at p q s t u : ℕ) → p ≡ at + length numberText → q ≡ p + length refusalText → s ≡ q + length outcomeText → t ≡ s + length tsText → u ≡ t + length consoleText
-      → sets (sets (sets (sets (sets (sets l at numberText) p refusalText) q outcomeText) s tsText) t consoleText) u valueText ≡ sets l at (lineText r)
-  line-writes l at p q s t u a b c d e =
-      sets-sets (sets (sets (sets (sets l at numberText) p refusalText) q outcomeText) s tsText) t u consoleText valueText e
-      ∙ sets-sets (sets (sets (sets l at numberText) p refusalText) q outcomeText) s t tsText (consoleText ++ valueText) d
-      ∙ sets-sets (sets (sets l at numberText) p refusalText) q s outcomeText (tsText ++ (consoleText ++ valueText)) c
-      ∙ sets-sets (sets l at numberText) p q refusalText (outcomeText ++ (tsText ++ (consoleText ++ valueText))) b
-      ∙ sets-sets l at p numberText (refusalText ++ (outcomeText ++ (tsText ++ (consoleText ++ valueText)))) a
-      ∙ ap (sets l at) (sym line-fields)
+  -- three writes, each at the place after the one before it
+  pub line-writes : (l : List ℕ) (at p q : ℕ) → p ≡ at + length (decimal n) → q ≡ p + length (fieldsText ns)
+      → set (sets (sets l at (decimal n)) p (fieldsText ns)) q lfByte ≡ sets l at (ended (n ∷ ns))
+  line-writes l at p q e f =
+      sets-sets (sets l at (decimal n)) p q (fieldsText ns) (lfByte ∷ []) f
+      ∙ sets-sets l at p (decimal n) (fieldsText ns ++ lfByte ∷ []) e
+      ∙ ap (sets l at) (sym line-parts)

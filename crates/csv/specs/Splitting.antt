@@ -1,10 +1,10 @@
 -- The lines of an input (document 01, 'Lines that programs read and write'): 'A line ends in CR LF, LF or the end of the input; the
 -- end is no part of it, and nothing after the last LF is no line.'
-use Prim.Native.Nat.{ℕ}
+use Prim.Native.Nat.{ℕ, _+_}
 use mathlib.Core.Bool.{cond}
 use mathlib.Core.List.{List, [], _∷_, _++_}
 use lib.Dec.{eqb}
-use Rattle.csv.specs.Reading.{crByte, lfByte}
+use Rattle.csv.specs.Reading.{crByte, lfByte, maxLine}
 
 -- what stands before an LF, without the CR of a CR LF
 unfoldable pub chop : List ℕ → List ℕ
@@ -25,6 +25,6 @@ linesAfter cur (x ∷ s) = cond (eqb x lfByte) (chop cur ∷ linesAfter [] s) (l
 abbrev pub linesOf : List ℕ → List (List ℕ)
 linesOf s = linesAfter [] s
 
--- how many bytes of a line are held
+-- how many bytes of a line are held: those of a line, its CR and one more
 abbrev pub heldBytes : ℕ
-heldBytes = 66
+heldBytes = maxLine + 2

@@ -19,15 +19,20 @@ pub enum Line {
     Numbers(u32, u32, u32),
 }
 
+// The fields of an output line after its number: refusal or 0, outcome, ts, console, value.
+pub const OUTPUT_FIELDS: usize = 5;
+
 // Paper 1: 'Each output line has line number, refusal or 0, outcome, ts, console, value'.
-pub struct Row {
+pub struct Output {
     pub number: u64,
-    pub refusal: u32,
-    pub outcome: u32,
-    pub ts: u32,
-    pub console: u32,
-    pub value: u32,
+    pub fields: [u32; OUTPUT_FIELDS],
 }
 
-// The most bytes of a written line: 20 digits of 64 bits, five times 10 digits of 32 bits, and a byte after each field.
-pub const LINE_BYTES: usize = 76;
+// The most digits of a number of 64 bits.
+pub const NUMBER_BYTES: usize = 20;
+
+// The most bytes of a field: a comma and 10 digits of a number of 32 bits.
+pub const FIELD_BYTES: usize = 11;
+
+// The most bytes of a written line: its number, its fields and its LF.
+pub const LINE_BYTES: usize = NUMBER_BYTES + OUTPUT_FIELDS * FIELD_BYTES + 1;

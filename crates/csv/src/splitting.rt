@@ -4,9 +4,10 @@ ghost use mathlib.Core.Path.{_≡_};
 ghost use Prim.Native.Nat.{_≤_, min};
 ghost use lib.ListN.{length, take};
 ghost use Rattle.csv.specs.Splitting.{chop};
+use crate::reading::MAX_LINE;
 
-// How many bytes of a line are held: one more than a line and its CR can have, so that a line that is too long is seen to be.
-pub const HELD_BYTES: usize = 66;
+// How many bytes of a line are held: those of a line, its CR and one more, so that a line that is too long is seen to be.
+pub const HELD_BYTES: usize = MAX_LINE + 2;
 
 // The lesser of two numbers.
 pub fn least(a: usize, b: usize) -> usize

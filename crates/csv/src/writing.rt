@@ -1,12 +1,13 @@
 // Writing at a running place of a lent output: each function answers the place after what it wrote, and leaves all else as it
 // was. A call has seen that there is room, but for put_line, which others call: it sees to that itself.
+ghost use mathlib.Core.List.{_∷_};
 ghost use mathlib.Core.Path.{_≡_};
-ghost use Prim.Native.Nat.{_+_, _<_, _≤_};
+ghost use Prim.Native.Nat.{_+_, _*_, _<_, _≤_};
 ghost use lib.ListN.{length, set};
 ghost use lib.Seq.{sets};
-ghost use Rattle.csv.specs.Writing.{digitOf, decimal, fieldText, lineText, wordBytes, lineBytes};
+ghost use Rattle.csv.specs.Writing.{digitOf, decimal, fieldText, fieldsText, ended, lineText, numberBytes, fieldBytes, lineBytes};
 use crate::LINE_BYTES;
-use crate::Row;
+use crate::Output;
 
 fn wide(x: u32) -> u64
     ensures { λ r. ⌜ r ≡ x ⌝ }
@@ -40,39 +41,42 @@ fn put_number(out: &mut [u8], at: usize, n: u64) -> usize
     put_byte(out, next, last_digit(n))
 }
 
-// The number n and the byte that ends its field.
-fn put_field(out: &mut [u8], at: usize, n: u64, end: u8) -> usize
-    requires { ⌜ at + length (fieldText n end) ≤ length (now out) ⌝ }
-    ensures { λ r. ⌜ (r ≡ at + length (fieldText n end)) × (now (out .exit) ≡ sets (now (out .entry)) at (fieldText n end)) ⌝ }
+// A comma and the number n, where there is room for the longest.
+fn put_field(out: &mut [u8], at: usize, n: u32) -> usize
+    requires { ⌜ at + fieldBytes ≤ length (now out) ⌝ }
+    ensures { λ r. ⌜ (r ≤ at + fieldBytes) × (r ≡ at + length (fieldText n)) × (now (out .exit) ≡ sets (now (out .entry)) at (fieldText n)) ⌝ }
 {
-    let next = put_number(out, at, n);
-    put_byte(out, next, end)
+    let next = put_byte(out, at, b',');
+    put_number(out, next, wide(n))
 }
 
-// The same of a number of 32 bits, where there is room for the longest.
-fn put_word(out: &mut [u8], at: usize, n: u32, end: u8) -> usize
-    requires { ⌜ at + wordBytes ≤ length (now out) ⌝ }
-    ensures { λ r. ⌜ (r ≡ at + length (fieldText n end)) × (now (out .exit) ≡ sets (now (out .entry)) at (fieldText n end)) × (r ≤ at + wordBytes) ⌝ }
+// Each of the numbers after a comma, where there is room for the longest.
+fn put_fields(out: &mut [u8], at: usize, fields: &[u32]) -> usize
+    requires { ⌜ at + length (now fields) * fieldBytes ≤ length (now out) ⌝ }
+    ensures { λ r. ⌜ (r ≤ at + length (now (fields .entry)) * fieldBytes) × (r ≡ at + length (fieldsText (now (fields .entry)))) × (now (out .exit) ≡ sets (now (out .entry)) at (fieldsText (now (fields .entry)))) ⌝ }
 {
-    put_field(out, at, wide(n), end)
+    let mut next = at;
+    let mut i = 0;
+    while i < fields.len() {
+        next = put_field(out, next, fields[i]);
+        i += 1;
+    }
+    next
 }
 
-// The row as a line, with its LF, where there is room for LINE_BYTES.
-fn put_row(out: &mut [u8], at: usize, row: Row) -> usize
-    requires { ⌜ at + lineBytes ≤ length (now out) ⌝ }
-    ensures { λ r. ⌜ (r ≤ at + lineBytes) × (r ≡ at + length (lineText row)) × (now (out .exit) ≡ sets (now (out .entry)) at (lineText row)) ⌝ }
+// A line of a number and fields, with its LF, where there is room for the longest.
+fn put_numbers(out: &mut [u8], at: usize, number: u64, fields: &[u32]) -> usize
+    requires { ⌜ at + numberBytes + length (now fields) * fieldBytes + 1 ≤ length (now out) ⌝ }
+    ensures { λ r. ⌜ (r ≤ at + numberBytes + length (now (fields .entry)) * fieldBytes + 1) × (r ≡ at + length (ended (number ∷ now (fields .entry)))) × (now (out .exit) ≡ sets (now (out .entry)) at (ended (number ∷ now (fields .entry)))) ⌝ }
 {
-    let p = put_field(out, at, row.number, b',');
-    let q = put_word(out, p, row.refusal, b',');
-    let r = put_word(out, q, row.outcome, b',');
-    let s = put_word(out, r, row.ts, b',');
-    let t = put_word(out, s, row.console, b',');
-    put_word(out, t, row.value, b'\n')
+    let p = put_number(out, at, number);
+    let q = put_fields(out, p, fields);
+    put_byte(out, q, b'\n')
 }
 
-// The same for any caller: where there is no room for LINE_BYTES nothing is written, and what is answered is left open.
-pub fn put_line(out: &mut [u8], at: usize, row: Row) -> usize
-    ensures { λ r. ⌜ (at + lineBytes ≤ length (now (out .entry)) → (r ≤ at + lineBytes) × (r ≡ at + length (lineText row)) × (now (out .exit) ≡ sets (now (out .entry)) at (lineText row))) ⌝ }
+// An output line where there is room for LINE_BYTES. Elsewhere nothing is written, and what is answered is left open.
+pub fn put_line(out: &mut [u8], at: usize, line: Output) -> usize
+    ensures { λ r. ⌜ (at + lineBytes ≤ length (now (out .entry)) → (r ≤ at + lineBytes) × (r ≡ at + length (lineText line)) × (now (out .exit) ≡ sets (now (out .entry)) at (lineText line))) ⌝ }
     ensures { λ r. ⌜ (length (now (out .entry)) < at + lineBytes → now (out .exit) ≡ now (out .entry)) ⌝ }
 {
     if at > out.len() {
@@ -81,5 +85,5 @@ pub fn put_line(out: &mut [u8], at: usize, row: Row) -> usize
     if out.len() - at < LINE_BYTES {
         return at;
     }
-    put_row(out, at, row)
+    put_numbers(out, at, line.number, &line.fields)
 }

@@ -22,7 +22,7 @@ use Rattle.board.specs.Steps.{fresh, begin, nodeDown, nodeUp, consoleDown}
 use Rattle.board.specs.Applied.{withSent, withPart, applied}
 use Rattle.board.specs.Deliver.{deliver}
 use Rattle.verbs.specs.Verbs.{stepOf}
-use Rattle.schedule.specs.Schedule.{answerOf, boardAfter, rowOf, effectOf, nextNumber, outputOf, scheduleText}
+use Rattle.schedule.specs.Schedule.{answerOf, boardAfter, lineOutput, effectOf, nextNumber, outputOf, scheduleText}
 
 pub record Example : Type 0 where
   pub input : String
@@ -52,5 +52,5 @@ examples =
     ∷ []
 
 pub schedules-printed : map (λ x. scheduleText (bytes (x .input))) examples ≡ map (λ x. bytes (x .must)) examples
-unfolding bytes indexOf countOf fromField quoted unquoted fieldOf allDigits valueFrom numOf lineOf digits decimal joined lineText chop linesAfter every count greater compared member insert size onlyBelow majority askSize tellSize nodeIn consoleIn frameIn cellIndex setFrame setRow nodesAllowed consolesAllowed setupOk isZero tagOk nodeOk nodesOk restOk wantedOk waitOk stateOk markOk consoleOk consolesOk frameOk cellOk rowOk cellsOk withUp taken rests asks awaits stillAlike hears takesIn nextTag tells acked nodeAt consoleAt frameAt withNode withConsole withFrame withRow freshBoard wellFormed guarded begins ends falls rises fresh begin nodeDown nodeUp consoleDown onAsk onPut discards heard finished turned finishesEarly replied onReply acknowledged onAck onFrame delivered withSent withPart applied deliver stepOf answerOf boardAfter rowOf effectOf nextNumber outputOf scheduleText examples
+unfolding bytes indexOf countOf fromField quoted unquoted fieldOf allDigits valueFrom numOf lineOf digits decimal joined lineText chop linesAfter every count greater compared member insert size onlyBelow majority askSize tellSize nodeIn consoleIn frameIn cellIndex setFrame setRow nodesAllowed consolesAllowed setupOk isZero tagOk nodeOk nodesOk restOk wantedOk waitOk stateOk markOk consoleOk consolesOk frameOk cellOk rowOk cellsOk withUp taken rests asks awaits stillAlike hears takesIn nextTag tells acked nodeAt consoleAt frameAt withNode withConsole withFrame withRow freshBoard wellFormed guarded begins ends falls rises fresh begin nodeDown nodeUp consoleDown onAsk onPut discards heard finished turned finishesEarly replied onReply acknowledged onAck onFrame delivered withSent withPart applied deliver stepOf answerOf boardAfter lineOutput effectOf nextNumber outputOf scheduleText examples
 schedules-printed = refl

@@ -15,7 +15,7 @@ use Rattle.csv.specs.Splitting.{chop, linesAfter, heldBytes}
 use Rattle.schedule.specs.Schedule.{Effect, effectOf, nextNumber, outputOf, scheduleText}
 use Rattle.schedule.specs.Chunks.{Session, atStart, withByte, lineEffect, afterLine, afterByte, textAt, afterBytes, textOf, textAtEnd, lastText, printed, inputOf, startRack, sessionOf}
 
--- ---- a line of which only the first 66 bytes are held is refused as the whole line is
+-- ---- a line of which only the first heldBytes are held is refused as the whole line is
 
 chop-length : (s : List ℕ) → length s ≤ suc (length (chop s))
 unfolding chop

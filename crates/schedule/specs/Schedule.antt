@@ -12,7 +12,7 @@ use Rattle.csv.specs.declared.Line.the-variants.{TooLong, NotThree, Numbers}
 use Rattle.csv.specs.Reading.{lineOf}
 use Rattle.parts.specs.Outcomes.{accepted, outcomeNumber, outcomeTag, outcomeValue}
 use Rattle.csv.specs.Splitting.{linesOf}
-use Rattle.csv.specs.declared.Row.{Row}
+use Rattle.csv.specs.declared.Output.{Output}
 use Rattle.csv.specs.Writing.{lineText}
 use Rattle.verbs.specs.Verbs.{stepOf}
 
@@ -33,15 +33,17 @@ boardAfter b a = cond (accepted (a .outcome)) (a .board) b
 
 -- 'Each output line has line number, refusal or 0, outcome, ts, console, value; the last three are 0 unless finished': of any
 -- other outcome the tag is (0, 0) and the value 0
-unfoldable pub rowOf : ℕ → Answer → Row
-rowOf n a =
+unfoldable pub lineOutput : ℕ → Answer → Output
+lineOutput n a =
     record {
       number = n;
-      refusal = a .refusal;
-      outcome = outcomeNumber (a .outcome);
-      ts = outcomeTag (a .outcome) .ts;
-      console = outcomeTag (a .outcome) .console;
-      value = outcomeValue (a .outcome);
+      fields =
+          a .refusal
+          ∷ outcomeNumber (a .outcome)
+          ∷ outcomeTag (a .outcome) .ts
+          ∷ outcomeTag (a .outcome) .console
+          ∷ outcomeValue (a .outcome)
+          ∷ [];
     }
 
 -- what a line comes to: the board after it, and its output line
@@ -51,7 +53,7 @@ pub record Effect : Type 0 where
 
 -- the line with number n, put to the board b
 unfoldable pub effectOf : Board → ℕ → List ℕ → Effect
-effectOf b n line = record { board = boardAfter b (answerTo line b); text = lineText (rowOf n (answerTo line b)) }
+effectOf b n line = record { board = boardAfter b (answerTo line b); text = lineText (lineOutput n (answerTo line b)) }
 
 -- 'Lines are numbered from 1', in 64 bits: the last number that there is stays
 abbrev pub firstNumber : ℕ

@@ -19,7 +19,7 @@ use csv::splitting::hold;
 use csv::splitting::least;
 
 // Takes the next line of the chunk, or what there is of it. The caller has seen that there is a byte left, that the line held has
-// its 66 bytes, and that an output line has room, and knows whether the board is well formed.
+// its HELD_BYTES, and that an output line has room, and knows whether the board is well formed.
 fn take_line(s: Rack, formed: bool, line: &mut [u8], chunk: &[u8], out: &mut [u8]) -> Rack
     requires { ⌜ (s .took < length (now chunk)) × (length (now line) ≡ heldBytes) × (s .held ≤ heldBytes) × (s .wrote + lineBytes ≤ length (now out)) ⌝ }
     requires { ⌜ formed ≡ wellFormed (s .board) ⌝ }
@@ -51,7 +51,7 @@ fn take_line(s: Rack, formed: bool, line: &mut [u8], chunk: &[u8], out: &mut [u8
     }
 }
 
-// Takes the whole chunk. The caller has seen that the line held has its 66 bytes, and that the output has room for a line at every
+// Takes the whole chunk. The caller has seen that the line held has its HELD_BYTES, and that the output has room for a line at every
 // byte. Question 1 is asked once: a well-formed board stays so. While it is not, question 1 is asked after each line, since a fresh may have
 // made another board.
 fn take_all(s: Rack, line: &mut [u8], chunk: &[u8], out: &mut [u8]) -> Rack

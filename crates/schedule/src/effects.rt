@@ -5,13 +5,13 @@ ghost use lib.ListN.{length};
 ghost use lib.Seq.{sets};
 ghost use Rattle.board.specs.WellFormed.{wellFormed};
 ghost use Rattle.csv.specs.Writing.{lineBytes};
-ghost use Rattle.schedule.specs.Schedule.{answerTo, boardAfter, rowOf, effectOf, nextNumber};
+ghost use Rattle.schedule.specs.Schedule.{answerTo, boardAfter, lineOutput, effectOf, nextNumber};
 use board::Answer;
 use board::Board;
 use board::refusals::LINE_TOO_LONG;
 use board::refusals::NOT_THREE_FIELDS;
 use csv::Line;
-use csv::Row;
+use csv::Output;
 use csv::reading::read_line;
 use csv::writing::put_line;
 use verbs::step_known;
@@ -57,19 +57,15 @@ fn board_after(b: Board, a: Answer) -> Board
     next
 }
 
-// The fields of the output line.
-fn row_of(number: u64, a: Answer) -> Row
-    ensures { λ r. ⌜ r ≡ rowOf number a ⌝ }
+// The output line of an answer.
+fn output_of(number: u64, a: Answer) -> Output
+    ensures { λ r. ⌜ r ≡ lineOutput number a ⌝ }
 {
     let o = a.outcome;
     let t = o.tag();
-    Row {
+    Output {
         number: number,
-        refusal: a.refusal,
-        outcome: o.number(),
-        ts: t.ts,
-        console: t.console,
-        value: o.value(),
+        fields: [a.refusal, o.number(), t.ts, t.console, o.value()],
     }
 }
 
@@ -88,7 +84,7 @@ pub(crate) fn run_line(
     ensures { λ r. ⌜ (r .wrote ≤ at + lineBytes) × (r .board ≡ effectOf b number (now (line .entry)) .board) × (r .wrote ≡ at + length (effectOf b number (now (line .entry)) .text)) × (now (out .exit) ≡ sets (now (out .entry)) at (effectOf b number (now (line .entry)) .text)) ⌝ }
 {
     let a = answer_to(line, b, formed);
-    let end = put_line(out, at, row_of(number, a));
+    let end = put_line(out, at, output_of(number, a));
     let next = board_after(b, a);
     Ran {
         board: next,

@@ -1,4 +1,4 @@
--- The answer, its row and the board after it, each by the definition.
+-- The answer, its output line and the board after it, each by the definition.
 use native.Mathlib.Omega.{arith}
 use Rattle.schedule.specs.Schedule.{effectOf}
 use borrow.Author.Needs.{needs}
@@ -8,8 +8,8 @@ use Rattle.schedule.proofs.effects.run_line.Tie as tie
 answer-to-requires : tie.Need-answer-to-requires
 answer-to-requires c κs = search needs
 
-row-of-requires : tie.Need-row-of-requires
-row-of-requires c κs = search needs
+output-of-requires : tie.Need-output-of-requires
+output-of-requires c κs = search needs
 
 put-line-requires : tie.Need-put-line-requires
 put-line-requires c κs = search needs
@@ -24,13 +24,13 @@ returns : tie.Need-returns
 unfolding effectOf
 returns c =
     let put = c .before .before .before in
-    let row = put .before in
-    let answered = row .before .before in
+    let output = put .before in
+    let answered = output .before .before in
     let written = put .put-line .ensures .0 (omega arith) in (
       written .0,
       rw (c .board-after .ensures, answered .answer-to .ensures),
-      rw (row .row-of .ensures, answered .answer-to .ensures) at (written .1),
-      rw (row .row-of .ensures, answered .answer-to .ensures) at (written .2),
+      rw (output .output-of .ensures, answered .answer-to .ensures) at (written .1),
+      rw (output .output-of .ensures, answered .answer-to .ensures) at (written .2),
     )
 
 pub run-line-spec : {M : Type 1} → statement M
@@ -38,7 +38,7 @@ run-line-spec =
     tie.close
     (tie.spec
     answer-to-requires
-    row-of-requires
+    output-of-requires
     put-line-requires
     board-after-requires
     same-length

@@ -1,8 +1,8 @@
 -- Field by field.
-use Rattle.schedule.specs.Schedule.{rowOf}
+use Rattle.schedule.specs.Schedule.{lineOutput}
 use borrow.Author.Needs.{needs}
-use Rattle.schedule.proofs.effects.row_of.Statement.{statement}
-use Rattle.schedule.proofs.effects.row_of.Tie as tie
+use Rattle.schedule.proofs.effects.output_of.Statement.{statement}
+use Rattle.schedule.proofs.effects.output_of.Tie as tie
 
 tag-requires : tie.Need-tag-requires
 tag-requires c κs = search needs
@@ -14,8 +14,8 @@ value-requires : tie.Need-value-requires
 value-requires c κs = search needs
 
 returns : tie.Need-returns
-unfolding rowOf
+unfolding lineOutput
 returns c = rw (c .value .ensures, c .before .number .ensures, c .before .before .tag .ensures)
 
-pub row-of-spec : {M : Type 1} → statement M
-row-of-spec = tie.close (tie.spec tag-requires number-requires value-requires returns)
+pub output-of-spec : {M : Type 1} → statement M
+output-of-spec = tie.close (tie.spec tag-requires number-requires value-requires returns)
