@@ -28,7 +28,10 @@ returns-2 : tie.Need-returns-2 Inv-loop μ-loop
 returns-2 c = sym (num-some _ (c .before .before .before .before .if1 .left) ∙ c .before .before .before .loop .inv .2 ∙ read-low _ _ _ (c .before .before .loop-test .taken) (c .if2 .taken))
 
 returns-3 : tie.Need-returns-3 Inv-loop μ-loop
-returns-3 c = sym (num-some _ (c .before .before .before .before .before .if1 .left) ∙ c .before .before .before .before .loop .inv .2 ∙ read-high _ _ _ (c .before .before .before .loop-test .taken) (omega (arith, c .if3 .taken)))
+returns-3 c =
+    let more = c .before .before .before in
+    let turn = more .before in
+    sym (num-some _ (turn .before .if1 .left) ∙ turn .loop .inv .2 ∙ read-high _ _ _ (more .loop-test .taken) (omega (arith, c .if3 .taken)))
 
 mul-sum : tie.Need-mul-sum Inv-loop μ-loop
 mul-sum c = search needs
@@ -41,10 +44,13 @@ add-sum c = search needs
 
 returns-4 : tie.Need-returns-4 Inv-loop μ-loop
 returns-4 c =
+    let digit = c .before .before in
+    let more = digit .before .before .before in
+    let turn = more .before in
     sym
-    (num-some _ (c .before .before .before .before .before .before .before .if1 .left)
-    ∙ c .before .before .before .before .before .before .loop .inv .2
-    ∙ read-more _ _ _ (c .before .before .before .before .before .loop-test .taken) (c .before .before .before .if2 .left) (c .before .before .if3 .left) _ (c .before .wide .ensures)
+    (num-some _ (turn .before .if1 .left)
+    ∙ turn .loop .inv .2
+    ∙ read-more _ _ _ (more .loop-test .taken) (digit .before .if2 .left) (digit .if3 .left) _ (c .before .wide .ensures)
     ∙ read-big _ _ (omega (arith, c .if4 .taken)))
 
 add-i : tie.Need-add-i Inv-loop μ-loop
@@ -54,11 +60,14 @@ loop-less : tie.Need-loop-less Inv-loop μ-loop
 loop-less c = search needs
 
 loop-again : tie.Need-loop-again Inv-loop μ-loop
-loop-again c = (
-  search needs,
-  omega (arith, c .if4 .left),
-  c .before .before .before .before .before .before .loop .inv .2 ∙ read-more _ _ _ (c .before .before .before .before .before .loop-test .taken) (c .before .before .before .if2 .left) (c .before .before .if3 .left) _ (c .before .wide .ensures),
-)
+loop-again c =
+    let digit = c .before .before in
+    let more = digit .before .before .before in
+    let turn = more .before in (
+      search needs,
+      omega (arith, c .if4 .left),
+      turn .loop .inv .2 ∙ read-more _ _ _ (more .loop-test .taken) (digit .before .if2 .left) (digit .if3 .left) _ (c .before .wide .ensures),
+    )
 
 cast-t13 : tie.Need-cast-t13 Inv-loop μ-loop
 cast-t13 c = search needs

@@ -26,7 +26,10 @@ one-if-comma-requires : tie.Need-one-if-comma-requires Inv-loop μ-loop
 one-if-comma-requires c κs = search needs
 
 add-n : tie.Need-add-n Inv-loop μ-loop
-add-n c = omega (arith, one-at-most (eqb (getD (c .before .before .before .before .before .args .s .now) (c .before .before .before .loop .i) 0) commaByte))
+add-n c =
+    let turn = c .before .before .before in
+    let s = turn .before .before .args .s .now in
+    omega (arith, one-at-most (eqb (getD s (turn .loop .i) 0) commaByte))
 
 add-i : tie.Need-add-i Inv-loop μ-loop
 add-i c = search needs
@@ -35,7 +38,13 @@ loop-less : tie.Need-loop-less Inv-loop μ-loop
 loop-less c = search needs
 
 loop-again : tie.Need-loop-again Inv-loop μ-loop
-loop-again c = (search needs, omega (arith, one-at-most (eqb (getD (c .before .before .before .before .before .args .s .now) (c .before .before .before .loop .i) 0) commaByte)), omega (arith, count-step (c .before .before .before .before .before .args .s .now) commaByte (c .before .before .before .loop .i) (c .before .before .loop-test .taken)))
+loop-again c =
+    let turn = c .before .before .before in
+    let s = turn .before .before .args .s .now in (
+      search needs,
+      omega (arith, one-at-most (eqb (getD s (turn .loop .i) 0) commaByte)),
+      omega (arith, count-step s commaByte (turn .loop .i) (c .before .before .loop-test .taken)),
+    )
 
 returns : tie.Need-returns Inv-loop μ-loop
 returns c = omega (arith, count-end (c .before .before .before .args .s .now) commaByte (c .before .loop .i) (c .loop-test .left))

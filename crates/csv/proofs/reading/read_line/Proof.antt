@@ -38,8 +38,21 @@ three-requires c κs = search needs
 
 returns-3 : tie.Need-returns-3
 returns-3 c =
-    rw (c .three .ensures, c .before .number3 .ensures, c .before .before .field3 .ensures .0, c .before .before .before .number2 .ensures, c .before .before .before .before .field2 .ensures .0, c .before .before .before .before .before .number .ensures, c .before .before .before .before .before .before .field .ensures .0)
-    (sym (line-three _ (c .before .before .before .before .before .before .before .before .before .if1 .left) (sym (c .before .before .before .before .before .before .before .before .commas .ensures) ∙ c .before .before .before .before .before .before .before .if2 .left)))
+    let third = c .before in
+    let second = third .before .before in
+    let first = second .before .before in
+    let two-commas = first .before .before in
+    let counted = two-commas .before in
+    rw (
+      c .three .ensures,
+      third .number3 .ensures,
+      third .before .field3 .ensures .0,
+      second .number2 .ensures,
+      second .before .field2 .ensures .0,
+      first .number .ensures,
+      first .before .field .ensures .0,
+    )
+    (sym (line-three _ (counted .before .if1 .left) (sym (counted .commas .ensures) ∙ two-commas .if2 .left)))
 
 pub read-line-spec : {M : Type 1} → statement M
 read-line-spec =

@@ -31,7 +31,11 @@ returns-3 : tie.Need-returns-3
 returns-3 c = search needs
 
 returns-4 : tie.Need-returns-4
-returns-4 c = simp (c .before .before .before .before .before .before .before .a .given .1, c .before .before .before .before .b .given .1, c .before .c .given .1)
+returns-4 c =
+    let third = c .before in
+    let second = third .before .before .before in
+    let first = second .before .before .before in
+    simp (first .a .given .1, second .b .given .1, third .c .given .1)
 
 pub three-spec : {M : Type 1} → statement M
 three-spec =

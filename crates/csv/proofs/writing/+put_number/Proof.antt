@@ -44,7 +44,9 @@ put-number-put-byte-requires : (t : ℕ) → put-number-lts.Need-put-byte-requir
   put-number-below t,
   put-number.Post,
 ) (put-number-at t) put-number.Post
-put-number-put-byte-requires t c κs = omega (arith, length-one (c .before .before .before .before .args .n) (omega (arith, c .before .before .if1 .taken)))
+put-number-put-byte-requires t c κs =
+    let one = c .before .before in
+    omega (arith, length-one (one .before .before .args .n) (omega (arith, one .if1 .taken)))
 
 put-number-same-length : (t : ℕ) → put-number-lts.Need-same-length (
   last-digit-reads.Asked,
@@ -64,10 +66,14 @@ put-number-returns : (t : ℕ) → put-number-lts.Need-returns (
   put-number-below t,
   put-number.Post,
 ) (put-number-at t) put-number.Post
-put-number-returns t c = (
-  omega (arith, length-one (c .before .before .before .before .before .before .before .args .n) (omega (arith, c .before .before .before .before .before .if1 .taken))),
-  c .before .before .put-byte .ensures .1 ∙ put-one _ _ _ _ (omega (arith, c .before .before .before .before .before .if1 .taken)) (c .before .before .before .last-digit .ensures),
-)
+put-number-returns t c =
+    let put = c .before .before in
+    let one = put .before .before .before in
+    let n : ℕ = one .before .before .args .n in
+    let below : n < 10 = omega (arith, one .if1 .taken) in (
+      omega (arith, length-one n below),
+      put .put-byte .ensures .1 ∙ put-one _ _ _ _ below (put .before .last-digit .ensures),
+    )
 
 put-number-put-number-requires : (t : ℕ) → put-number-lts.Need-put-number-requires (
   last-digit-reads.Asked,
@@ -97,7 +103,9 @@ put-number-put-byte-requires-2 : (t : ℕ) → put-number-lts.Need-put-byte-requ
   put-number-below t,
   put-number.Post,
 ) (put-number-at t) put-number.Post
-put-number-put-byte-requires-2 t c κs = omega (arith, length-more _ (c .before .before .before .before .before .before .if1 .left) (c .before .before .before .before .before .before .before .before .fits .n .fits))
+put-number-put-byte-requires-2 t c κs =
+    let more = c .before .before .before .before .before .before in
+    omega (arith, length-more _ (more .if1 .left) (more .before .before .fits .n .fits))
 
 put-number-same-length-2 : (t : ℕ) → put-number-lts.Need-same-length-2 (
   last-digit-reads.Asked,
@@ -117,13 +125,16 @@ put-number-returns-2 : (t : ℕ) → put-number-lts.Need-returns-2 (
   put-number-below t,
   put-number.Post,
 ) (put-number-at t) put-number.Post
-put-number-returns-2 t c = (
-  omega (arith, length-more _ (c .before .before .before .before .before .before .before .before .before .if1 .left) (c .before .before .before .before .before .before .before .before .before .before .before .fits .n .fits)),
-  c .before .before .put-byte2 .ensures .1
-      ∙ rw (c .before .before .before .before .before .before .before .put-number .ensures .1)
-      (put-more _ _ _ _ _ (c .before .before .before .before .before .before .before .before .before .if1 .left) (c .before .before .before .before .before .before .before .before .before .before .before .fits .n .fits)
-      (c .before .before .before .last-digit2 .ensures) (c .before .before .before .before .before .before .before .put-number .ensures .0)),
-)
+put-number-returns-2 t c =
+    let last = c .before .before in
+    let first = last .before .before .before .before .before in
+    let more = first .before .before in
+    let fits = more .before .before .fits .n .fits in (
+      omega (arith, length-more _ (more .if1 .left) fits),
+      last .put-byte2 .ensures .1
+          ∙ rw (first .put-number .ensures .1)
+          (put-more _ _ _ _ _ (more .if1 .left) fits (last .before .last-digit2 .ensures) (first .put-number .ensures .0)),
+    )
 
 pub +put-number-spec : {M : Type 1} → statement M
 +put-number-spec = close μ-put-number λ t. put-number-lts.spec (

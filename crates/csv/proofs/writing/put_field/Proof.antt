@@ -14,7 +14,8 @@ wide-requires c κs = search needs
 
 put-number-requires : tie.Need-put-number-requires
 put-number-requires c κs =
-    let entry = c .before .before .before .before .before .before .before in
+    let comma = c .before .before .before .before in
+    let entry = comma .before .before .before in
     rw (c .wide .ensures) (omega (arith, entry .pre, field-short (entry .args .n) (entry .fits .n .fits)))
 
 same-length : tie.Need-same-length
