@@ -17,21 +17,42 @@ are-nodes-ok-requires c κs = search needs
 
 returns-2 : tie.Need-returns-2
 unfolding wellFormed
-returns-2 c = simp (said-yes (c .before .before .before .before .is-setup-ok .ensures) (c .before .before .before .if1 .left), said-no (c .before .are-nodes-ok .ensures) (c .if2 .taken))
+returns-2 c =
+    let setup = c .before .before .before in
+    simp (
+      said-yes (setup .before .is-setup-ok .ensures) (setup .if1 .left),
+      said-no (c .before .are-nodes-ok .ensures) (c .if2 .taken),
+    )
 
 are-consoles-ok-requires : tie.Need-are-consoles-ok-requires
 are-consoles-ok-requires c κs = search needs
 
 returns-3 : tie.Need-returns-3
 unfolding wellFormed
-returns-3 c = simp (said-yes (c .before .before .before .before .before .before .before .is-setup-ok .ensures) (c .before .before .before .before .before .before .if1 .left), said-yes (c .before .before .before .before .are-nodes-ok .ensures) (c .before .before .before .if2 .left), said-no (c .before .are-consoles-ok .ensures) (c .if3 .taken))
+returns-3 c =
+    let nodes = c .before .before .before in
+    let setup = nodes .before .before .before in
+    simp (
+      said-yes (setup .before .is-setup-ok .ensures) (setup .if1 .left),
+      said-yes (nodes .before .are-nodes-ok .ensures) (nodes .if2 .left),
+      said-no (c .before .are-consoles-ok .ensures) (c .if3 .taken),
+    )
 
 are-cells-ok-requires : tie.Need-are-cells-ok-requires
 are-cells-ok-requires c κs = search needs
 
 returns-4 : tie.Need-returns-4
 unfolding wellFormed
-returns-4 c = simp (said-yes (c .before .before .before .before .before .before .before .before .before .is-setup-ok .ensures) (c .before .before .before .before .before .before .before .before .if1 .left), said-yes (c .before .before .before .before .before .before .are-nodes-ok .ensures) (c .before .before .before .before .before .if2 .left), said-yes (c .before .before .before .are-consoles-ok .ensures) (c .before .before .if3 .left)) (c .are-cells-ok .ensures)
+returns-4 c =
+    let consoles = c .before .before in
+    let nodes = consoles .before .before .before in
+    let setup = nodes .before .before .before in
+    simp (
+      said-yes (setup .before .is-setup-ok .ensures) (setup .if1 .left),
+      said-yes (nodes .before .are-nodes-ok .ensures) (nodes .if2 .left),
+      said-yes (consoles .before .are-consoles-ok .ensures) (consoles .if3 .left),
+    )
+    (c .are-cells-ok .ensures)
 
 pub is-well-formed-spec : {M : Type 1} → statement M
 is-well-formed-spec =

@@ -19,28 +19,60 @@ is-tag-ok-requires c κs = search needs
 
 returns-2 : tie.Need-returns-2
 unfolding consoleOk
-returns-2 c = simp (said-yes (c .before .before .before .before .before .before .is-mark-ok .ensures) (c .before .before .before .before .before .if1 .left), lt-ltb _ _ (c .before .before .if2 .taken), said-no (c .before .is-tag-ok .ensures) (c .if3 .taken))
+returns-2 c =
+    let in-range = c .before .before in
+    let marked = in-range .before .before .before in
+    simp (
+      said-yes (marked .before .is-mark-ok .ensures) (marked .if1 .left),
+      lt-ltb _ _ (in-range .if2 .taken),
+      said-no (c .before .is-tag-ok .ensures) (c .if3 .taken),
+    )
 
 is-state-ok-requires : tie.Need-is-state-ok-requires
 is-state-ok-requires c κs = search needs
 
 returns-3 : tie.Need-returns-3
 unfolding consoleOk
-returns-3 c = simp (said-yes (c .before .before .before .before .before .before .before .is-mark-ok .ensures) (c .before .before .before .before .before .before .if1 .left), lt-ltb _ _ (c .before .before .before .if2 .taken), said-yes (c .before .before .is-tag-ok .ensures) (c .before .if3 .left)) (c .is-state-ok .ensures)
+returns-3 c =
+    let tagged = c .before in
+    let in-range = tagged .before .before in
+    let marked = in-range .before .before .before in
+    simp (
+      said-yes (marked .before .is-mark-ok .ensures) (marked .if1 .left),
+      lt-ltb _ _ (in-range .if2 .taken),
+      said-yes (tagged .before .is-tag-ok .ensures) (tagged .if3 .left),
+    )
+    (c .is-state-ok .ensures)
 
 is-idle-requires : tie.Need-is-idle-requires
 is-idle-requires c κs = search needs
 
 returns-4 : tie.Need-returns-4
 unfolding consoleOk
-returns-4 c = simp (said-yes (c .before .before .before .before .before .before .is-mark-ok .ensures) (c .before .before .before .before .before .if1 .left), le-ltb _ _ (c .before .before .if2 .left), said-no (c .before .is-idle .ensures) (c .if4 .taken))
+returns-4 c =
+    let beyond = c .before .before in
+    let marked = beyond .before .before .before in
+    simp (
+      said-yes (marked .before .is-mark-ok .ensures) (marked .if1 .left),
+      le-ltb _ _ (beyond .if2 .left),
+      said-no (c .before .is-idle .ensures) (c .if4 .taken),
+    )
 
 is-rest-ok-requires : tie.Need-is-rest-ok-requires
 is-rest-ok-requires c κs = search needs
 
 returns-5 : tie.Need-returns-5
 unfolding consoleOk
-returns-5 c = simp (said-yes (c .before .before .before .before .before .before .before .is-mark-ok .ensures) (c .before .before .before .before .before .before .if1 .left), le-ltb _ _ (c .before .before .before .if2 .left), said-yes (c .before .before .is-idle .ensures) (c .before .if4 .left)) (c .is-rest-ok .ensures)
+returns-5 c =
+    let idle = c .before in
+    let beyond = idle .before .before in
+    let marked = beyond .before .before .before in
+    simp (
+      said-yes (marked .before .is-mark-ok .ensures) (marked .if1 .left),
+      le-ltb _ _ (beyond .if2 .left),
+      said-yes (idle .before .is-idle .ensures) (idle .if4 .left),
+    )
+    (c .is-rest-ok .ensures)
 
 pub is-console-ok-spec : {M : Type 1} → statement M
 is-console-ok-spec =

@@ -28,7 +28,15 @@ returns c = simp (c .before .before .before .before .s .given .1, sym (c .before
 
 returns-2 : tie.Need-returns-2
 unfolding stateOk
-returns-2 c = simp (c .before .before .before .before .before .before .s .given .1, sym (c .before .before .before .before .ask-size .ensures), said-yes (c .before .before .before .is-wait-ok .ensures) (c .before .before .if1 .left), ne-eqb _ _ (c .if2 .taken))
+returns-2 c =
+    let waits = c .before .before in
+    let sized = waits .before .before in
+    simp (
+      sized .before .before .s .given .1,
+      sym (sized .ask-size .ensures),
+      said-yes (waits .before .is-wait-ok .ensures) (waits .if1 .left),
+      ne-eqb _ _ (c .if2 .taken),
+    )
 
 is-zero-requires : tie.Need-is-zero-requires
 is-zero-requires c κs = search needs
@@ -54,7 +62,16 @@ returns-3 c = simp (c .before .enum-told .given .1) (c .is-rest-ok .ensures)
 
 returns-4 : tie.Need-returns-4
 unfolding stateOk
-returns-4 c = simp (c .before .before .before .before .before .before .before .s .given .1, sym (c .before .before .before .before .before .ask-size .ensures), said-yes (c .before .before .before .before .is-wait-ok .ensures) (c .before .before .before .if1 .left), eq-eqb _ _ (c .before .if2 .left)) (c .is-zero .ensures)
+returns-4 c =
+    let waits = c .before .before .before in
+    let sized = waits .before .before in
+    simp (
+      sized .before .before .s .given .1,
+      sym (sized .ask-size .ensures),
+      said-yes (waits .before .is-wait-ok .ensures) (waits .if1 .left),
+      eq-eqb _ _ (c .before .if2 .left),
+    )
+    (c .is-zero .ensures)
 
 returns-5 : tie.Need-returns-5
 unfolding stateOk
