@@ -96,7 +96,8 @@ length-more n h g = ap length (decimal-more n h g) ∙ length-snoc (decimal (n /
 pub put-one : (l : List ℕ) (at n d : ℕ) → n < 10 → d ≡ digitOf n → set l at d ≡ sets l at (decimal n)
 put-one l at n d h e = rw (decimal-one n h, e)
 
-pub put-more : (l : List ℕ) (at n d next : ℕ) → 10 ≤ n → n < 2 ^ 64 → d ≡ digitOf n → next ≡ at + length (decimal (n / 10)) → set (sets l at (decimal (n / 10))) next d ≡ sets l at (decimal n)
+pub put-more : (l : List ℕ) (at n d next : ℕ) → 10 ≤ n → n < 2 ^ 64 → d ≡ digitOf n → next ≡ at + length (decimal (n / 10))
+    → set (sets l at (decimal (n / 10))) next d ≡ sets l at (decimal n)
 put-more l at n d next h g e f = rw (decimal-more n h g, e, f) (sym (sets-snoc l at (decimal (n / 10)) (digitOf n)))
 
 -- ---- a field

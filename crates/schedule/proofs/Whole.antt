@@ -97,7 +97,8 @@ module _ (x : ℕ) (input : List ℕ) (ih : Good input) (cur : List ℕ) (b : Bo
   unfolding linesAfter outputOf
   line-ended e =
       let z : Session = holding [] (effectOf b n (chop cur) .board) (nextNumber n) in
-      rw e (append-assoc (effectOf b n (chop cur) .text) (textOf z input) (lastText (afterBytes z input)) ∙ ap (λ (t : List ℕ). effectOf b n (chop cur) .text ++ t) (ih [] (effectOf b n (chop cur) .board) (nextNumber n)))
+      let text : List ℕ = effectOf b n (chop cur) .text in
+      rw e (append-assoc text (textOf z input) (lastText (afterBytes z input)) ∙ ap (λ (t : List ℕ). text ++ t) (ih [] (effectOf b n (chop cur) .board) (nextNumber n)))
 
   next : (t u : List ℕ) (z y : Session) → t ≡ u → z ≡ y → Next u y → Next t z
   next t u z y e f g = rw (e, f) g

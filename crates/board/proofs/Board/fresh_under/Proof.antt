@@ -21,7 +21,11 @@ refused-requires c κs = search needs
 
 returns : tie.Need-returns
 unfolding fresh
-returns c = c .refused .ensures ∙ ap (λ (b : Board). refuse b 2) (c .before .smallest .ensures) ∙ sym (guarded-no _ _ _ _ (said-no (c .before .before .before .is-node-count .ensures) (c .before .before .if1 .taken)))
+returns c =
+    let nodes = c .before .before in
+    c .refused .ensures
+    ∙ ap (λ (b : Board). refuse b 2) (c .before .smallest .ensures)
+    ∙ sym (guarded-no _ _ _ _ (said-no (nodes .before .is-node-count .ensures) (nodes .if1 .taken)))
 
 is-console-count-requires : tie.Need-is-console-count-requires
 is-console-count-requires c κs = search needs
@@ -34,7 +38,14 @@ refused-requires-2 c κs = search needs
 
 returns-2 : tie.Need-returns-2
 unfolding fresh
-returns-2 c = c .refused2 .ensures ∙ ap (λ (b : Board). refuse b 3) (c .before .smallest2 .ensures) ∙ sym (guarded-yes _ _ _ _ (said-yes (c .before .before .before .before .before .is-node-count .ensures) (c .before .before .before .before .if1 .left)) ∙ guarded-no _ _ _ _ (said-no (c .before .before .before .is-console-count .ensures) (c .before .before .if2 .taken)))
+returns-2 c =
+    let consoles = c .before .before in
+    let nodes = consoles .before .before in
+    c .refused2 .ensures
+    ∙ ap (λ (b : Board). refuse b 3) (c .before .smallest2 .ensures)
+    ∙ sym
+    (guarded-yes _ _ _ _ (said-yes (nodes .before .is-node-count .ensures) (nodes .if1 .left))
+    ∙ guarded-no _ _ _ _ (said-no (consoles .before .is-console-count .ensures) (consoles .if2 .taken)))
 
 made-requires : tie.Need-made-requires
 made-requires c κs = search needs
@@ -44,7 +55,15 @@ accepted-requires c κs = search needs
 
 returns-3 : tie.Need-returns-3
 unfolding fresh
-returns-3 c = c .accepted .ensures ∙ ap (answer Done) (c .before .made .ensures) ∙ sym (guarded-yes _ _ _ _ (said-yes (c .before .before .before .before .before .is-node-count .ensures) (c .before .before .before .before .if1 .left)) ∙ guarded-yes _ _ _ _ (said-yes (c .before .before .before .is-console-count .ensures) (c .before .before .if2 .left)) ∙ guarded-end _ _)
+returns-3 c =
+    let consoles = c .before .before in
+    let nodes = consoles .before .before in
+    c .accepted .ensures
+    ∙ ap (answer Done) (c .before .made .ensures)
+    ∙ sym
+    (guarded-yes _ _ _ _ (said-yes (nodes .before .is-node-count .ensures) (nodes .if1 .left))
+    ∙ guarded-yes _ _ _ _ (said-yes (consoles .before .is-console-count .ensures) (consoles .if2 .left))
+    ∙ guarded-end _ _)
 
 pub fresh-under-spec : {M : Type 1} → statement M
 fresh-under-spec =

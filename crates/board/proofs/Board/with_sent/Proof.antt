@@ -66,13 +66,23 @@ loop-less c = search needs
 loop-again : tie.Need-loop-again Inv-loop μ-loop
 unfolding setFrame
 loop-again c =
-    let l = c .before .before .before .loop in
-    let s = c .before .before .before .before .before in
+    let turn = c .before .before .before in
+    let l = turn .loop in
+    let s = turn .before .before in
     let a = s .before .before .args in
+    let f : Frame = s .sent2 .given .0 .0 in
     let n : length (a .t1 .cells) ≡ 40 = sym (length-map (a .t1 .cells) _) ∙ s .before .before .good .0 .1 .1 .1 .1 .1 .0 .1 .0 .1 in
+    let more = row-more (a .t1 .cells) (a .c .0) (l .i) f in
+    let few = row-length (a .t1 .cells) (a .c .0) (l .i) f in
+    let at : ℕ = cellIndex (a .c .0) (l .i) in
     ⊎-elim
-    (λ w. (omega arith, w .1 ∙ rw (l .inv .1, c .before .cell-index2 .ensures, sym (row-more (a .t1 .cells) (a .c .0) (l .i) (s .sent2 .given .0 .0)))))
-    (λ w. (omega arith, w .1 ∙ l .inv .1 ∙ rw (sym (row-more (a .t1 .cells) (a .c .0) (l .i) (s .sent2 .given .0 .0)), set-out (setRow (a .t1 .cells) (a .c .0) (l .i) (s .sent2 .given .0 .0)) (cellIndex (a .c .0) (l .i)) (cellOf (s .sent2 .given .0 .0)) (omega (arith, c .before .cell-index2 .ensures, row-length (a .t1 .cells) (a .c .0) (l .i) (s .sent2 .given .0 .0))))))
+    (λ w. (omega arith, w .1 ∙ rw (l .inv .1, c .before .cell-index2 .ensures, sym more)))
+    (λ w. (
+      omega arith,
+      w .1
+          ∙ l .inv .1
+          ∙ rw (sym more, set-out (setRow (a .t1 .cells) (a .c .0) (l .i) f) at (cellOf f) (omega (arith, c .before .cell-index2 .ensures, few))),
+    ))
     (c .if2 .came)
 
 returns : tie.Need-returns Inv-loop μ-loop
