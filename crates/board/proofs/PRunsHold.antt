@@ -3,22 +3,8 @@
 -- of those that hold the definitions to single sentences, of decisions; and of question 1's boards.
 use mathlib.Core.List.{List, map}
 use mathlib.Core.Path.{_≡_, refl}
-use Rattle.parts.specs.Finite.{every, count}
-use Rattle.parts.specs.Tags.{greater, compared}
-use Rattle.parts.specs.AnsweredSet.{member, insert, size, onlyBelow}
-use Rattle.parts.specs.Sizes.{majority, askSize, tellSize}
-use Rattle.parts.specs.Parts.{nodeIn, consoleIn, frameIn, cellIndex, setFrame, setRow}
-use Rattle.well_formed.specs.Clauses.{nodesAllowed, consolesAllowed, setupOk, isZero, tagOk, nodeOk, nodesOk, restOk, wantedOk, waitOk, stateOk, markOk, consoleOk, consolesOk, frameOk, cellOk, rowOk, cellsOk}
-use Rattle.decisions.specs.Changes.{withUp, taken, rests, asks, awaits, stillAlike, hears, takesIn, nextTag, tells, acked}
-use Rattle.decisions.specs.Questions.{guarded}
-use Rattle.decisions.specs.Steps.{begins, ends, falls, rises}
-use Rattle.decisions.specs.Deliver.{onAsk, onPut, discards, heard, finished, turned, finishesEarly, replied, onReply, acknowledged, onAck, onFrame, delivered}
-use Rattle.board.specs.Boards.{nodeAt, consoleAt, frameAt, withNode, withConsole, withFrame, withRow, freshBoard}
 use Rattle.board.specs.WellFormed.{wellFormed}
-use Rattle.board.specs.Applied.{withSent, withPart, applied}
-use Rattle.board.specs.Steps.{fresh, begin, nodeDown, nodeUp, consoleDown}
-use Rattle.board.specs.Deliver.{deliver}
-use Rattle.board.specs.Runs.{step}
+use Rattle.board.proofs.Opened.{openedStep}
 use Rattle.board.specs.PRuns.{PRun, Seen, seen, left, allSeen, shows, mustShow, pRuns}
 use Rattle.board.specs.UpRuns.{upRuns}
 use Rattle.board.specs.CompareRuns.{CompareRun, Told, allTold, says, mustSay, written, lower, higher, compareRuns}
@@ -29,7 +15,7 @@ use Rattle.board.specs.FormedBoards.{FormedBoard, formedBoards}
 
 -- what runs show, with every definition opened
 opened : List PRun → List CompareRun → List (List Seen) × List (List Told)
-unfolding every count greater compared member insert size onlyBelow majority askSize tellSize nodeIn consoleIn frameIn cellIndex setFrame setRow nodesAllowed consolesAllowed setupOk isZero tagOk nodeOk nodesOk restOk wantedOk waitOk stateOk markOk consoleOk consolesOk frameOk cellOk rowOk cellsOk withUp taken rests asks awaits stillAlike hears takesIn nextTag tells acked nodeAt consoleAt frameAt withNode withConsole withFrame withRow freshBoard wellFormed guarded begins ends falls rises fresh begin nodeDown nodeUp consoleDown onAsk onPut discards heard finished turned finishesEarly replied onReply acknowledged onAck onFrame delivered withSent withPart applied deliver step seen left allSeen allTold
+unfolding openedStep seen left allSeen allTold
 opened rs cs = (map shows rs, map says cs)
 
 pub p-runs-hold : map shows pRuns ≡ map mustShow pRuns

@@ -5,24 +5,14 @@ use Prim.Native.Nat.{_+_, _*_}
 use mathlib.Core.List.{List, map, _∷_, []}
 use native.Mathlib.Omega.{arith}
 use mathlib.Core.Path.{refl, _≡_}
-use Rattle.parts.specs.AnsweredSet.{insert, member, onlyBelow, size}
-use Rattle.parts.specs.Finite.{count, every}
-use Rattle.parts.specs.Parts.{consoleIn, frameIn, nodeIn, cellIndex, setFrame, setRow}
-use Rattle.parts.specs.Sizes.{askSize, majority, tellSize}
-use Rattle.parts.specs.Tags.{compared, greater}
+use Rattle.parts.specs.Finite.{count}
+use Rattle.parts.specs.Sizes.{majority}
 use Rattle.parts.specs.declared.Release.the-variants.{One, Two}
 use Rattle.parts.specs.declared.Setup.{Setup}
-use Rattle.well_formed.specs.Clauses.{cellOk, cellsOk, consoleOk, consolesAllowed, consolesOk, frameOk, isZero, markOk, nodeOk, nodesAllowed, nodesOk, restOk, rowOk, setupOk, stateOk, tagOk, waitOk, wantedOk}
-use Rattle.decisions.specs.Changes.{acked, asks, awaits, hears, nextTag, rests, stillAlike, taken, takesIn, tells, withUp}
-use Rattle.decisions.specs.Steps.{begins, ends, falls, rises}
-use Rattle.decisions.specs.Deliver.{acknowledged, delivered, discards, finished, finishesEarly, heard, onAck, onAsk, onFrame, onPut, onReply, replied, turned}
-use Rattle.decisions.specs.Questions.{guarded}
-use Rattle.board.specs.Boards.{consoleAt, frameAt, freshBoard, nodeAt, withConsole, withFrame, withNode, withRow}
-use Rattle.board.specs.Applied.{applied, withPart, withSent}
 use Rattle.board.specs.Deliver.{deliver}
-use Rattle.board.specs.Runs.{Step, step}
-use Rattle.board.specs.Steps.{begin, consoleDown, fresh, nodeDown, nodeUp, setupOf}
-use Rattle.board.specs.WellFormed.{wellFormed}
+use Rattle.board.specs.Runs.{Step}
+use Rattle.board.specs.Steps.{setupOf}
+use Rattle.board.proofs.Opened.{openedStep}
 use Rattle.guarantee.specs.Claim.{HasDeliverable, here}
 use Rattle.guarantee.specs.Log.{Run, after, next, noted, ofConsole, run, start, tally, upAfter, writesBegun}
 use Rattle.guarantee.specs.Reached.{all-back-refusals, all-back-steps, back-refusals, back-steps, late-log, late-steps, mixed-log, mixed-steps, p4-log, p4-steps, quiet-log, quiet-log-under-1, quiet-steps, stuck-log, stuck-refusals, stuck-steps}
@@ -30,7 +20,7 @@ use Rattle.guarantee.proofs.Theorem.{demand-3}
 
 -- a run with every definition opened
 whole : Setup → List Step → Run
-unfolding run start after next noted upAfter ofConsole every count greater compared member insert size onlyBelow majority askSize tellSize nodeIn consoleIn frameIn cellIndex setFrame setRow nodesAllowed consolesAllowed setupOk isZero tagOk nodeOk nodesOk restOk wantedOk waitOk stateOk markOk consoleOk consolesOk frameOk cellOk rowOk cellsOk withUp taken rests asks awaits stillAlike hears takesIn nextTag tells acked nodeAt consoleAt frameAt withNode withConsole withFrame withRow freshBoard wellFormed guarded begins ends falls rises fresh begin nodeDown nodeUp consoleDown onAsk onPut discards heard finished turned finishesEarly replied onReply acknowledged onAck onFrame delivered withSent withPart applied deliver step
+unfolding run start after next noted upAfter ofConsole openedStep
 whole σ ss = run σ ss
 
 p4-reaches : whole (setupOf 3 2 One) p4-steps .ops ≡ p4-log

@@ -6,21 +6,7 @@ use Rattle.csv.specs.Quoted.{bytes}
 use Rattle.csv.specs.Reading.{indexOf, countOf, fromField, quoted, unquoted, fieldOf, allDigits, valueFrom, numOf, lineOf}
 use Rattle.csv.specs.Writing.{digits, decimal, joined, lineText}
 use Rattle.csv.specs.Splitting.{chop, linesAfter}
-use Rattle.parts.specs.Finite.{every, count}
-use Rattle.parts.specs.Tags.{greater, compared}
-use Rattle.parts.specs.AnsweredSet.{member, insert, size, onlyBelow}
-use Rattle.parts.specs.Sizes.{majority, askSize, tellSize}
-use Rattle.parts.specs.Parts.{nodeIn, consoleIn, frameIn, cellIndex, setFrame, setRow}
-use Rattle.well_formed.specs.Clauses.{nodesAllowed, consolesAllowed, setupOk, isZero, tagOk, nodeOk, nodesOk, restOk, wantedOk, waitOk, stateOk, markOk, consoleOk, consolesOk, frameOk, cellOk, rowOk, cellsOk}
-use Rattle.decisions.specs.Changes.{withUp, taken, rests, asks, awaits, stillAlike, hears, takesIn, nextTag, tells, acked}
-use Rattle.decisions.specs.Questions.{guarded}
-use Rattle.decisions.specs.Steps.{begins, ends, falls, rises}
-use Rattle.decisions.specs.Deliver.{onAsk, onPut, discards, heard, finished, turned, finishesEarly, replied, onReply, acknowledged, onAck, onFrame, delivered}
-use Rattle.board.specs.Boards.{nodeAt, consoleAt, frameAt, withNode, withConsole, withFrame, withRow, freshBoard}
-use Rattle.board.specs.WellFormed.{wellFormed}
-use Rattle.board.specs.Steps.{fresh, begin, nodeDown, nodeUp, consoleDown}
-use Rattle.board.specs.Applied.{withSent, withPart, applied}
-use Rattle.board.specs.Deliver.{deliver}
+use Rattle.board.proofs.Opened.{openedStep}
 use Rattle.verbs.specs.Verbs.{stepOf}
 use Rattle.schedule.specs.Schedule.{answerOf, boardAfter, lineOutput, effectOf, nextNumber, outputOf, scheduleText}
 
@@ -52,5 +38,7 @@ examples =
     ∷ []
 
 pub schedules-printed : map (λ x. scheduleText (bytes (x .input))) examples ≡ map (λ x. bytes (x .must)) examples
-unfolding bytes indexOf countOf fromField quoted unquoted fieldOf allDigits valueFrom numOf lineOf digits decimal joined lineText chop linesAfter every count greater compared member insert size onlyBelow majority askSize tellSize nodeIn consoleIn frameIn cellIndex setFrame setRow nodesAllowed consolesAllowed setupOk isZero tagOk nodeOk nodesOk restOk wantedOk waitOk stateOk markOk consoleOk consolesOk frameOk cellOk rowOk cellsOk withUp taken rests asks awaits stillAlike hears takesIn nextTag tells acked nodeAt consoleAt frameAt withNode withConsole withFrame withRow freshBoard wellFormed guarded begins ends falls rises fresh begin nodeDown nodeUp consoleDown onAsk onPut discards heard finished turned finishesEarly replied onReply acknowledged onAck onFrame delivered withSent withPart applied deliver stepOf answerOf boardAfter lineOutput effectOf nextNumber outputOf scheduleText examples
+unfolding bytes indexOf countOf fromField quoted unquoted fieldOf allDigits valueFrom numOf lineOf
+    digits decimal joined lineText chop linesAfter
+    openedStep stepOf answerOf boardAfter lineOutput effectOf nextNumber outputOf scheduleText examples
 schedules-printed = refl
