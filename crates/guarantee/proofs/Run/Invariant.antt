@@ -19,8 +19,6 @@ use Rattle.guarantee.proofs.Laws.Lists.{Each, all-both, all-each, any-e
 use Rattle.guarantee.proofs.Laws.Tags.{key}
 use Rattle.guarantee.proofs.Laws.States.{both}
 use Rattle.guarantee.proofs.Board.Boards.{Beside, BoardOk, beside-same}
-use Rattle.guarantee.proofs.Board.Consoles.{waits}
-use Rattle.guarantee.proofs.Delivery.Effects.{five}
 use Rattle.guarantee.proofs.Run.Moves.{Above, Moves, OpOk, apart-moves, open-is}
 use Rattle.guarantee.proofs.Run.Known.{Known, tally-le}
 

@@ -22,9 +22,8 @@ use Rattle.guarantee.proofs.Laws.Tags.{Small, key}
 use Rattle.guarantee.proofs.Laws.States.{contra, not-both, telling-waits, turns}
 use Rattle.guarantee.proofs.Board.Rows.{Held, grow-floor}
 use Rattle.guarantee.proofs.Board.Boards.{Beside, BoardOk, TagKind, same-floor, tags}
-use Rattle.guarantee.proofs.Board.Consoles.{waits}
 use Rattle.guarantee.proofs.Delivery.Spent.{earlier, most, spent, sum-same, weight}
-use Rattle.guarantee.proofs.Delivery.Effects.{Ending, Going, Own, RowFloor, Turning, ends-now, five, goesOn, going, spent-below, spentAt, turns-now}
+use Rattle.guarantee.proofs.Delivery.Effects.{Ending, Going, Own, RowFloor, Turning, ends-now, goesOn, going, spent-below, spentAt, turns-now}
 
 pub record OpOk (σ : Setup) (place : ℕ) (b : Board) (x : Op) : Type 0 where
   pub earlier : x .began < place
