@@ -167,11 +167,9 @@ pub fn damaged(chance: &mut Chance, rows: &[Row]) -> usize {
     for i in 0..DAMAGED {
         let pairs = &rows[i % rows.len()].pairs;
         let (mut words, step) = pairs[chance.below(pairs.len() as u32) as usize];
-        let some = [0, 1, 2, 3, 4, 5, 8, 31, 32, 4_000_000_000, 4_000_000_001, u32::MAX];
+        let some = [0, 1, 2, 3, 4, 5, 6, 8, 31, 32, 255, 256, 4_000_000_000, 4_000_000_001, u32::MAX];
         let word = chance.below(BOARD_WORDS as u32) as usize;
         words[word] = some[chance.below(some.len() as u32) as usize];
-        // Of the words that are one board, take those that a step writes.
-        words = Plain::of(&words).in_words();
         if both(&mut words, step) == Err(Refusal(1)) {
             refused += 1;
         }
