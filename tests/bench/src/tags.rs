@@ -47,7 +47,7 @@ pub fn pair(w: &Words, step: Step) -> Option<Pair> {
         console: w[at + 1],
     };
     let (cell, console) = (words::cell(c, k), words::console(c));
-    let is_asking = matches!(State::of_word(w[console]), State::Asking(_));
+    let is_asking = matches!(State::of_word(w[console]), Some(State::Asking(_)));
     let has_answered = w[console + 2] >> k & 1 == 1;
     match w[cell] {
         2 if is_asking && !has_answered => Some(Pair {

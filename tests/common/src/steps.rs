@@ -64,14 +64,16 @@ impl State {
         }
     }
 
-    pub fn of_word(word: u32) -> State {
+    /// None if no state has this number.
+    pub fn of_word(word: u32) -> Option<State> {
         match word {
-            0 => State::Idle,
-            1 => State::Asking(Kind::Read),
-            2 => State::Asking(Kind::Write),
-            3 => State::Telling(Kind::Read),
-            4 => State::Telling(Kind::Write),
-            _ => State::Down,
+            0 => Some(State::Idle),
+            1 => Some(State::Asking(Kind::Read)),
+            2 => Some(State::Asking(Kind::Write)),
+            3 => Some(State::Telling(Kind::Read)),
+            4 => Some(State::Telling(Kind::Write)),
+            5 => Some(State::Down),
+            _ => None,
         }
     }
 }

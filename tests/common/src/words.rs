@@ -1,11 +1,11 @@
-//! Where a board's parts stand in the library's words (crates/words/specs/Words.antt): n, m and the release, then four
-//! words for a node (up, ts, console, value), seven for a console (state, wanted, answered, ts, console, value, mark),
-//! four for a cell (frame, ts, console, value).
+//! Where a board's parts stand in the library's words (crates/layout/specs/Layout.antt): n, m and the release, then
+//! four words for a node (up, ts, console, value), seven for a console (state, wanted, answered, ts, console, value,
+//! mark), four for a cell (frame, ts, console, value). Standing.antt beside it says which numbers can stand there.
 use hatukeno::BOARD_WORDS;
 
 pub type Words = [u32; BOARD_WORDS];
 
-/// 2 is release 2, and every other number release 1.
+/// It is 1 or 2.
 pub const RELEASE: usize = 2;
 /// Where the words of the nodes, the consoles and the cells begin, and how many each has.
 pub const NODES: usize = 3;
@@ -23,7 +23,7 @@ pub fn console(c: u32) -> usize {
     CONSOLES + CONSOLE * c as usize
 }
 
-/// The mark is off only at 0.
+/// The mark is 0 or 1.
 pub fn mark(c: u32) -> usize {
     console(c) + 6
 }

@@ -1,7 +1,7 @@
 //! Puts steps to the library and to the model beside it.
 use crate::faults::Faulty;
 use crate::model::{Answer, Compared, Model, Outcome, Release, Step};
-use crate::words;
+use crate::words::{self, Words};
 use hatukeno::{Board, Refusal};
 
 /// What the two differ by, or how a rule is broken, in whole lines.
@@ -76,23 +76,34 @@ fn alike(library: &Said, model: &Answer) -> bool {
     }
 }
 
-/// Puts the step to both, and gives the model's answer. A difference is told whole.
+/// Puts the step to both, and gives the model's answer.
 pub fn both(board: &mut Board, model: &mut Model, step: Step, faulty: Faulty) -> Agreed<Answer> {
+    let (expected, next) = faulty.step(model, step);
+    let after = if expected.outcome.is_ok() {
+        words::write(&next)
+    } else {
+        *board.words()
+    };
+    expect(board, step, expected, &after)?;
+    *model = next;
+    Ok(expected)
+}
+
+/// Puts the step to the library: the answer is to be this one, and these the words after it. A difference is told
+/// whole.
+pub fn expect(board: &mut Board, step: Step, expected: Answer, after: &Words) -> Agreed {
     let before = *board.words();
     let library = put(board, step);
-    let (expected, next) = faulty.step(model, step);
-    let after = if expected.outcome.is_ok() { words::write(&next) } else { before };
-    if !alike(&library, &expected) || *board.words() != after {
+    if !alike(&library, &expected) || board.words() != after {
         return differ(&[
             format!("a difference at {step:?}"),
             format!("the board was {:?}", words::read(&before)),
             format!("its words were {before:?}"),
             format!("the library answered {library:?}, its words are {:?}", board.words()),
-            format!("the model answered {expected:?}, its board is {next:?}"),
+            format!("the model answered {expected:?}, its board is {:?}", words::read(after)),
         ]);
     }
-    *model = next;
-    Ok(expected)
+    Ok(())
 }
 
 /// Puts the list to a board: the answers must be the model's, and the last board the one that the steps left one by

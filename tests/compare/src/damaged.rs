@@ -1,16 +1,22 @@
 //! Boards with words out of place.
-use crate::beside::{both, made, put, Agreed};
+use crate::beside::{made, put, Agreed};
 use crate::faults::Faulty;
-use crate::model::{Step, MAX_TS, RELEASES};
+use crate::lent::{Lent, Standing};
+use crate::model::{Release, Step, MAX_TS, RELEASES};
 use crate::words::Words;
 use common::Chance;
-use hatukeno::{Board, BOARD_WORDS};
+use hatukeno::BOARD_WORDS;
 
 const LAST_TS: u32 = MAX_TS as u32;
 
 /// A board of either release some steps into a run, fewer than this many.
 pub fn some_board(n: u32, m: u32, most: u32, chance: &mut Chance) -> Words {
-    let (mut board, _) = made(n, m, RELEASES[chance.below(2) as usize]);
+    let release = RELEASES[chance.below(2) as usize];
+    some_board_under(n, m, release, most, chance)
+}
+
+pub fn some_board_under(n: u32, m: u32, release: Release, most: u32, chance: &mut Chance) -> Words {
+    let (mut board, _) = made(n, m, release);
     for _ in 0..chance.below(most) {
         let step = chance.step(n, m, true);
         let _ = put(&mut board, step);
@@ -18,15 +24,16 @@ pub fn some_board(n: u32, m: u32, most: u32, chance: &mut Chance) -> Words {
     *board.words()
 }
 
-/// Numbers on both sides of every edge of well-formedness on a board of n nodes: n and m and what is beside them,
-/// releases, states, frames, small sets and what is beside all n nodes, the last timestamp and what is beside it.
+/// Numbers on both sides of every edge of what is a board's, and a well-formed one's, on n nodes: n and m and what is
+/// beside them, releases, states, frames, small sets and what is beside all n nodes and beside all sets, the last
+/// timestamp and what is beside it.
 fn edges(n: u32) -> impl Iterator<Item = u32> {
     let far = [2u32.pow(n) - 1, 2u32.pow(n), 255, 256, LAST_TS - 1, LAST_TS, LAST_TS + 1, u32::MAX];
     (0..10).chain(far)
 }
 
-/// How many boards were not well formed, how many of these had one word out of place, and how many were well formed
-/// after all.
+/// How many boards were not well formed, or none at all, how many of these had one word out of place, and how many were
+/// well formed after all.
 #[derive(Default)]
 pub struct Damaged {
     pub ill: u64,
@@ -37,7 +44,7 @@ pub struct Damaged {
 impl Damaged {
     /// Seven steps on a board of which so many words were set, each from there.
     fn put(&mut self, words: Words, set: u32, (n, m): (u32, u32), chance: &mut Chance, faulty: Faulty) -> Agreed {
-        let model = faulty.read(&words);
+        let lent = Lent::of(words, faulty);
         let steps = [
             Step::BeginRead(chance.number(m)),
             Step::BeginWrite(chance.number(m), 7),
@@ -47,10 +54,8 @@ impl Damaged {
             Step::ConsoleDown(chance.number(m)),
             Step::NodeUp(chance.number(n)),
         ];
-        for step in steps {
-            both(&mut Board::from_words(words), &mut model.clone(), step, faulty)?;
-        }
-        if faulty.is_well_formed(&model) {
+        lent.each(&steps)?;
+        if lent.standing() == Standing::WellFormed {
             self.well += 1;
         } else {
             self.ill += 1;

@@ -3,6 +3,7 @@
 mod early;
 mod lines;
 mod rules;
+mod standing;
 mod steps;
 mod taken;
 mod withdrawn;
@@ -14,6 +15,7 @@ use crate::words::{self, Words};
 use early::*;
 use lines::*;
 use rules::*;
+use standing::*;
 pub use steps::*;
 pub use taken::Taken;
 use withdrawn::*;
@@ -30,8 +32,8 @@ enum Wraps {
     Board(fn(&mut Model)),
     /// A step: it answers something else, or leaves another board.
     Step(fn(&mut Taken)),
-    /// The board that these words are.
-    Words(fn(&Words, &mut Model)),
+    /// The words that a board is read from: they are taken for others.
+    Words(fn(&mut Words)),
     /// A fresh in a list, on the first of these boards.
     List(fn(&Model, &mut Model)),
     /// The rules that a run is held to.
@@ -121,6 +123,17 @@ faults! {
     Step(withdrawn_handed),
     Step(withdrawn_stays),
     Step(withdrawn_at_down),
+    // In which words are a board's: numbers that stand for nothing, and what is beside a frame.
+    Words(state_else_down),
+    Words(frame_else_ack),
+    Words(set_cut),
+    Words(up_else_on),
+    Words(mark_else_on),
+    Words(release_else_one),
+    Words(beside_nothing_unread),
+    Words(beside_ask_unread),
+    Words(beside_ack_unread),
+    Words(tagged_all_zero),
 }
 
 /// The model with a fault round it, or as it is.
@@ -168,18 +181,19 @@ impl Faulty {
         given
     }
 
-    pub fn read(self, words: &Words) -> Model {
-        let mut board = words::read(words);
+    /// The board that is written so; none if no board is.
+    pub fn read(self, words: &Words) -> Option<Model> {
+        let mut given = *words;
         if let Some(Wraps::Words(change)) = self.wraps() {
-            change(words, &mut board);
+            change(&mut given);
         }
-        board
+        words::read(&given)
     }
 
-    /// A fresh in a list, put to this board.
-    pub fn fresh_in_list(self, board: &Model, n: u32, m: u32) -> Result<Model, u32> {
+    /// A fresh in a list, put to this board, or to words that are no board's.
+    pub fn fresh_in_list(self, board: Option<&Model>, n: u32, m: u32) -> Result<Model, u32> {
         let mut made = Model::fresh(n, m)?;
-        if let Some(Wraps::List(change)) = self.wraps() {
+        if let (Some(Wraps::List(change)), Some(board)) = (self.wraps(), board) {
             change(board, &mut made);
         }
         Ok(made)

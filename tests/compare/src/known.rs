@@ -71,7 +71,7 @@ impl Known {
         let outcome = Ok(outcome);
         self.expect(Step::Deliver(c, k), Ok(Outcome::Handed))?;
         self.expect_answer(Step::Deliver(c, k), Answer { outcome, compared })?;
-        if words::read(self.board.words()).consoles[&c].alike != is_on {
+        if words::read(self.board.words()).is_none_or(|board| board.consoles[&c].alike != is_on) {
             return differ(&[format!("the mark of console {c} is wrong after node {k}'s reply")]);
         }
         Ok(())

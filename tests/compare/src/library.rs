@@ -19,6 +19,7 @@ pub fn compare(amount: Amount, seed: u64, faulty: Faulty) -> Agreed<Seen> {
     for (n, m) in [(0, 0), (0, 9), (5, 8), (6, 1), (5, 9), (5, 0), (u32::MAX, 1), (1, u32::MAX)] {
         runs::fresh(n, m)?;
         runs::fresh_in_list(n, m, faulty)?;
+        runs::fresh_on_no_board(n, m, faulty)?;
     }
     // A fault is to be found by the runs by chance.
     if !faulty.is_faulty() {

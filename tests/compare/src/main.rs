@@ -14,6 +14,7 @@ mod drawing;
 mod faults;
 mod known;
 mod late;
+mod lent;
 mod library;
 mod marks;
 mod model;

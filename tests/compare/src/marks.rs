@@ -1,10 +1,11 @@
 //! Paper 3's rule for the mark, clause by clause: boards on which one console's mark is wrong and all else is as a run
 //! left it, and beside each the same board with the mark put right.
-use crate::beside::{both, differ, listed, put, Agreed};
+use crate::beside::{differ, put, Agreed};
 use crate::damaged::some_board;
 use crate::faults::Faulty;
-use crate::model::{Answer, Console, State, Step};
-use crate::words::{mark, Words};
+use crate::lent::Lent;
+use crate::model::{Console, State, Step};
+use crate::words::{self, mark, Words};
 use common::Chance;
 use hatukeno::{Board, Refusal};
 
@@ -94,24 +95,28 @@ impl Marks {
         PLACES.iter().zip(&self.tried).all(enough)
     }
 
-    /// Tries the board with this console's mark on and with it off, unless there are enough such boards.
+    /// Tries the board with this console's mark off, on, and a number that is no mark, unless there are enough such
+    /// boards.
     fn try_console(&mut self, words: Words, c: u32, chance: &mut Chance, faulty: Faulty) -> Agreed {
-        let here = place(&faulty.read(&words).consoles[&c]);
+        let Some(board) = words::read(&words) else {
+            return differ(&[format!("a run left words that are no board's: {words:?}")]);
+        };
+        let here = place(&board.consoles[&c]);
         let tried = &mut self.tried[here as usize];
         if *tried == OF_EACH {
             return Ok(());
         }
         *tried += 1;
-        let any_on = [1, 1, 2, 255, 256, u32::MAX][chance.below(6) as usize];
-        for number in [0, any_on] {
+        let no_mark = [2, 255, 256, u32::MAX][chance.below(4) as usize];
+        for (number, k) in [(0, chance.below(board.n)), (1, chance.below(board.n)), (no_mark, 0)] {
             let mut words = words;
             words[mark(c)] = number;
             let is_good = match here {
                 Place::Telling | Place::Idle | Place::Down | Place::NoneAnswered => number == 0,
-                Place::OneAnswered => number != 0,
-                Place::TwoOn | Place::TwoOff => true,
+                Place::OneAnswered => number == 1,
+                Place::TwoOn | Place::TwoOff => number == 0 || number == 1,
             };
-            try_board(words, c, is_good, chance, faulty)?;
+            try_board(words, c, k, is_good, faulty)?;
         }
         Ok(())
     }
@@ -124,7 +129,7 @@ impl Marks {
             .collect();
         let (wrong, right) = each.split_at(CLAUSES);
         println!(
-            "boards with one mark wrong, each refused with 1 by every step, and not with the mark put right: {}",
+            "boards with one mark wrong, or with a number that is none, each refused with 1 by every step, and not with the mark put right: {}",
             wrong.join(", ")
         );
         println!(
@@ -141,9 +146,7 @@ impl Marks {
 
 /// Every kind of step on the board, each from there, and all of them as one list: refused with 1 if the board is not
 /// good, and else not, and as the model answers.
-fn try_board(words: Words, c: u32, is_good: bool, chance: &mut Chance, faulty: Faulty) -> Agreed {
-    let model = faulty.read(&words);
-    let k = chance.below(model.n);
+fn try_board(words: Words, c: u32, k: u32, is_good: bool, faulty: Faulty) -> Agreed {
     let steps = [
         Step::BeginRead(c),
         Step::BeginWrite(c, 7),
@@ -152,21 +155,16 @@ fn try_board(words: Words, c: u32, is_good: bool, chance: &mut Chance, faulty: F
         Step::ConsoleDown(c),
         Step::NodeUp(k),
     ];
-    let board = Board::from_words(words);
     for step in steps {
-        let said = put(&mut board.clone(), step);
+        let said = put(&mut Board::from_words(words), step);
         if (said == Err(Refusal(1))) == is_good {
             return differ(&[
                 format!("{step:?} answered {said:?} where console {c}'s mark is {}", words[mark(c)]),
-                format!("the board is {model:?}"),
+                format!("the board is {:?}", words::read(&words)),
             ]);
         }
-        both(&mut board.clone(), &mut model.clone(), step, faulty)?;
     }
-    let (mut last, mut next) = (board.clone(), model);
-    let answers: Vec<Answer> = steps
-        .into_iter()
-        .map(|step| both(&mut last, &mut next, step, faulty))
-        .collect::<Agreed<_>>()?;
-    listed(board, &steps.map(Into::into), &answers, &last)
+    let lent = Lent::of(words, faulty);
+    lent.each(&steps)?;
+    lent.in_turn(&steps)
 }

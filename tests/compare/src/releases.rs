@@ -1,13 +1,13 @@
 //! The release in the words (Paper 4): boards on which a read lacks one reply, with the same tag as all before it, and
-//! on which the release is changed and nothing else. Whatever the number, the board is well formed; the reply finishes
-//! the read where the number is 2, and turns it where it is any other.
-use crate::beside::{both, differ, Agreed};
+//! on which the release is changed and nothing else. The reply turns the read where the number is 1 and finishes it
+//! where it is 2; where it is any other there is no such board, and every step is refused with 1.
+use crate::beside::{differ, Agreed};
 use crate::damaged::some_board;
 use crate::faults::Faulty;
+use crate::lent::Lent;
 use crate::model::{Compared, Outcome, Release, Step};
 use crate::words::{self, Words, RELEASE};
 use common::Chance;
-use hatukeno::Board;
 
 /// On each size boards are drawn, fewer than STEPS into a run, until there are OF_EACH; at most DRAWN, and if that does
 /// not do it is a difference.
@@ -42,7 +42,7 @@ impl Releases {
 
     pub fn print(&self) {
         println!(
-            "boards with only the release changed, to each of {} numbers: {}; a read finishes early by 2 and turns by every other",
+            "boards with only the release changed, to each of {} numbers: {}; a read turns by 1 and finishes early by 2, every other is refused with 1 and the board kept",
             NUMBERS.len(),
             self.tried
         );
@@ -51,7 +51,7 @@ impl Releases {
 
 /// A console and a node whose reply would finish a read early under release 2.
 fn last_alike_reply(words: &Words) -> Option<(u32, u32)> {
-    let mut model = words::read(words);
+    let mut model = words::read(words)?;
     model.release = Release::Two;
     let mut pairs = (0..model.m).flat_map(|c| (0..model.n).map(move |k| (c, k)));
     pairs.find(|(c, k)| {
@@ -63,16 +63,16 @@ fn last_alike_reply(words: &Words) -> Option<(u32, u32)> {
 fn try_board(mut words: Words, c: u32, k: u32, faulty: Faulty) -> Agreed {
     for number in NUMBERS {
         words[RELEASE] = number;
-        let model = faulty.read(&words);
-        for step in [Step::NodeDown(k), Step::NodeUp(k), Step::ConsoleDown(c)] {
-            both(&mut Board::from_words(words), &mut model.clone(), step, faulty)?;
-        }
-        let mut board = Board::from_words(words);
-        let answer = both(&mut board, &mut model.clone(), Step::Deliver(c, k), faulty)?;
-        let is_early = matches!(answer.outcome, Ok(Outcome::Finished(..)));
-        let release = if number == 2 { 2 } else { 1 };
-        if is_early != (release == 2) || board.words()[RELEASE] != release {
-            let words = board.words();
+        let mut lent = Lent::of(words, faulty);
+        lent.each(&[Step::NodeDown(k), Step::NodeUp(k), Step::ConsoleDown(c)])?;
+        let answer = lent.both(Step::Deliver(c, k))?;
+        let is_right = match (number, answer.outcome) {
+            (1, outcome) => outcome == Ok(Outcome::Turned),
+            (2, outcome) => matches!(outcome, Ok(Outcome::Finished(..))),
+            (_, outcome) => outcome == Err(1) && *lent.words() == words,
+        };
+        if !is_right || lent.words()[RELEASE] != number {
+            let words = lent.words();
             return differ(&[format!(
                 "the release is {number}: the reply answered {answer:?}, the words are {words:?}"
             )]);

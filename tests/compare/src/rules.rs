@@ -65,7 +65,7 @@ pub struct Counts {
 impl Counts {
     /// A discarded delivery of this console and node. Of asks and puts it is those of down consoles that are discarded.
     fn add_discarded(&mut self, c: u32, k: u32, from: &Board) {
-        let from = read(from.words());
+        let from = read(from.words()).expect("a delivery was accepted on it");
         let (frame, node) = (from.cells[&(c, k)], &from.nodes[&k]);
         match frame {
             Frame::Ask => self.asks_withdrawn += 1,
@@ -89,7 +89,7 @@ impl Counts {
             Compared::Same => self.same += 1,
             Compared::Higher => self.higher += 1,
         }
-        let is_on = |board: &Board| board.words()[mark(c)] != 0;
+        let is_on = |board: &Board| board.words()[mark(c)] == 1;
         match (is_on(from), is_on(to), answer.outcome) {
             (false, true, _) => self.set += 1,
             (true, true, _) => self.kept += 1,

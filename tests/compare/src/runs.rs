@@ -3,12 +3,15 @@ use crate::beside::{both, differ, in_library, listed, made, Agreed};
 use crate::faults::Faulty;
 use crate::model::{Answer, Model, Outcome, Release, Step, RELEASES};
 use crate::rules::{Counts, Run};
-use crate::words;
+use crate::words::{self, Words};
 use common::Chance;
 use hatukeno::{Board, BOARD_WORDS};
 
 /// The steps of a run.
 pub const LENGTH: u32 = 500;
+
+/// Words that no board is written as: up is 2.
+const NO_BOARD: Words = [2; BOARD_WORDS];
 
 /// A run that was put step by step: its answers, and the board that it left.
 struct Ran {
@@ -49,13 +52,12 @@ pub fn run(n: u32, m: u32, crashes: bool, chance: &mut Chance, faulty: Faulty, c
     listed_after_fresh(n, m, &list, &ran, faulty)
 }
 
-/// The same run as a list that begins with a fresh, on a board of release 2 and on words that are no well-formed
-/// board's.
+/// The same run as a list that begins with a fresh, on a board of release 2 and on words that are no board's.
 fn listed_after_fresh(n: u32, m: u32, list: &[hatukeno::Step], ran: &[Ran; 2], faulty: Faulty) -> Agreed {
     let list = [&[hatukeno::Step::Fresh { n, m }], list].concat();
     let [_, second] = ran;
-    for start in [*second.board.words(), [2; BOARD_WORDS]] {
-        let fresh = faulty.fresh_in_list(&faulty.read(&start), n, m).expect("an allowed size");
+    for start in [*second.board.words(), NO_BOARD] {
+        let fresh = faulty.fresh_in_list(faulty.read(&start).as_ref(), n, m).expect("an allowed size");
         let Ran { answers, board } = &ran[fresh.release as usize];
         let answers = [&[Answer::plain(Ok(Outcome::Done))], &answers[..]].concat();
         listed(Board::from_words(start), &list, &answers, board)?;
@@ -80,10 +82,24 @@ pub fn fresh(n: u32, m: u32) -> Agreed {
 pub fn fresh_in_list(n: u32, m: u32, faulty: Faulty) -> Agreed {
     for release in RELEASES {
         let (board, model) = made(3, 2, release);
-        let next = faulty.fresh_in_list(&model, n, m);
+        let next = faulty.fresh_in_list(Some(&model), n, m);
         let outcome = next.as_ref().map(|_| Outcome::Done).map_err(|refusal| *refusal);
         let last = Board::from_words(words::write(&next.unwrap_or(model)));
         listed(board, &[hatukeno::Step::Fresh { n, m }], &[Answer::plain(outcome)], &last)?;
     }
     Ok(())
+}
+
+/// The fresh in a list on words that are no board's: every step is refused with 1 until a fresh makes a board of them.
+pub fn fresh_on_no_board(n: u32, m: u32, faulty: Faulty) -> Agreed {
+    let (words, step, refused) = (NO_BOARD, Step::NodeDown(0), Answer::plain(Err(1)));
+    let list = [step.into(), hatukeno::Step::Fresh { n, m }, step.into()];
+    let (answers, last) = match faulty.fresh_in_list(None, n, m) {
+        Ok(made) => {
+            let (answer, next) = faulty.step(&made, step);
+            ([refused, Answer::plain(Ok(Outcome::Done)), answer], words::write(&next))
+        }
+        Err(refusal) => ([refused, Answer::plain(Err(refusal)), refused], words),
+    };
+    listed(Board::from_words(words), &list, &answers, &Board::from_words(last))
 }

@@ -2,46 +2,81 @@
 use crate::model::{Console, Frame, Model, Node, Release, State, Tag};
 pub use common::words::*;
 use hatukeno::BOARD_WORDS;
+use std::collections::BTreeSet;
 
 fn tag(w: &[u32]) -> Tag {
     (u64::from(w[0]), u64::from(w[1]))
 }
 
-pub fn read(w: &Words) -> Model {
-    let node = |w: &[u32]| Node {
-        up: w[0] != 0,
+/// 0 is no and 1 is yes.
+fn flag(w: u32) -> Option<bool> {
+    match w {
+        0 => Some(false),
+        1 => Some(true),
+        _ => None,
+    }
+}
+
+/// A number for each set of nodes 0 to 7.
+fn set(w: u32) -> Option<BTreeSet<u32>> {
+    let members = |w: u8| (0..8).filter(|k| w / 2u8.pow(*k) % 2 == 1).collect();
+    u8::try_from(w).ok().map(members)
+}
+
+fn release(w: u32) -> Option<Release> {
+    match w {
+        1 => Some(Release::One),
+        2 => Some(Release::Two),
+        _ => None,
+    }
+}
+
+fn node_in(w: &[u32]) -> Option<Node> {
+    Some(Node {
+        up: flag(w[0])?,
         tag: tag(&w[1..]),
         value: w[3],
-    };
-    let console = |w: &[u32]| Console {
-        state: State::of_word(w[0]),
+    })
+}
+
+fn console_in(w: &[u32]) -> Option<Console> {
+    Some(Console {
+        state: State::of_word(w[0])?,
         wanted: w[1],
-        answered: (0..8).filter(|k| w[2] / 2u32.pow(*k) % 2 == 1).collect(),
+        answered: set(w[2])?,
         best: tag(&w[3..]),
         value: w[5],
-        alike: w[6] != 0,
-    };
-    let frame = |w: &[u32]| match w[0] {
-        0 => None,
-        1 => Some(Frame::Ask),
-        2 => Some(Frame::Reply(tag(&w[1..]), w[3])),
-        3 => Some(Frame::Put(tag(&w[1..]), w[3])),
-        _ => Some(Frame::Ack),
-    };
-    Model {
+        alike: flag(w[6])?,
+    })
+}
+
+/// What the cell holds, nothing or a frame, if it can be written so.
+fn cell_in(w: &[u32]) -> Option<Option<Frame>> {
+    match w {
+        [0, 0, 0, 0] => Some(None),
+        [1, 0, 0, 0] => Some(Some(Frame::Ask)),
+        [2, tagged @ ..] => Some(Some(Frame::Reply(tag(tagged), tagged[2]))),
+        [3, tagged @ ..] => Some(Some(Frame::Put(tag(tagged), tagged[2]))),
+        [4, 0, 0, 0] => Some(Some(Frame::Ack)),
+        _ => None,
+    }
+}
+
+/// The board that is written so, whether it is well formed or not; none if no board is. It follows the comment of
+/// bindings/c/board.h.
+pub fn read(w: &Words) -> Option<Model> {
+    let nodes: Option<Vec<Node>> = w[NODES..CONSOLES].chunks(NODE).map(node_in).collect();
+    let consoles: Option<Vec<Console>> = w[CONSOLES..CELLS].chunks(CONSOLE).map(console_in).collect();
+    let cells: Option<Vec<Option<Frame>>> = w[CELLS..].chunks(CELL).map(cell_in).collect();
+    let in_cells = (0..).zip(cells?).filter_map(|(i, frame)| Some(((i / 5, i % 5), frame?)));
+    Some(Model {
         n: w[0],
         m: w[1],
-        release: match w[RELEASE] {
-            2 => Release::Two,
-            _ => Release::One,
-        },
-        nodes: (0..).zip(w[NODES..CONSOLES].chunks(NODE).map(node)).collect(),
-        consoles: (0..).zip(w[CONSOLES..CELLS].chunks(CONSOLE).map(console)).collect(),
-        cells: (0..)
-            .zip(w[CELLS..].chunks(CELL))
-            .filter_map(|(i, w)| Some(((i / 5, i % 5), frame(w)?)))
-            .collect(),
-    }
+        release: release(w[RELEASE])?,
+        nodes: (0..).zip(nodes?).collect(),
+        consoles: (0..).zip(consoles?).collect(),
+        cells: in_cells.collect(),
+    })
 }
 
 pub fn write(b: &Model) -> Words {

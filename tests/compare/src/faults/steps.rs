@@ -1,7 +1,6 @@
-//! Faults in the steps of document 01 and Papers 2 and 3, in the words of a board, and in the numbers of Paper 5.
+//! Faults in the steps of document 01 and Papers 2 and 3, and in the numbers of Paper 5.
 use super::taken::{Heard, Taken};
-use crate::model::{Compared, Frame, Kind, Model, Node, Outcome, Release, State, Step, Tag};
-use crate::words::{Words, RELEASE};
+use crate::model::{Compared, Frame, Kind, Model, Node, Outcome, State, Step, Tag};
 
 /// A read returns the greatest tag without telling it.
 pub fn read_untold(t: &mut Taken) {
@@ -136,13 +135,6 @@ pub fn one_unmarked(board: &mut Model) {
 /// A fresh in a list keeps the release of the board before it.
 pub fn list_keeps_release(before: &Model, made: &mut Model) {
     made.release = before.release;
-}
-
-/// Every number from 2 on is release 2.
-pub fn three_is_two(words: &Words, board: &mut Model) {
-    if words[RELEASE] > 2 {
-        board.release = Release::Two;
-    }
 }
 
 fn in_32_bits((ts, console): Tag) -> u32 {
