@@ -41,6 +41,7 @@ pub fn compare(amount: Amount, seed: u64, faulty: Faulty) -> Agreed<Seen> {
         seen.damaged.sweep(n, m, &mut chance, faulty)?;
         seen.reads.run(n, m, &mut chance, faulty)?;
     }
+    flip(seed, faulty, &mut seen)?;
     while seen.damaged.ill < amount.damaged {
         seen.damaged.draw(&mut chance, faulty)?;
     }
@@ -66,6 +67,17 @@ fn run_where_numbers_wrap(seed: u64, faulty: Faulty, seen: &mut Seen) -> Agreed 
         for release in RELEASES {
             let wraps = (1 + apart.below(7)) * WRAPS_AT;
             seen.late.run(n, m, release, wraps + 1, &mut apart, faulty)?;
+        }
+    }
+    Ok(())
+}
+
+/// Drawn apart too.
+fn flip(seed: u64, faulty: Faulty, seen: &mut Seen) -> Agreed {
+    let mut apart = Chance(!seed);
+    for (n, m) in sizes() {
+        for release in RELEASES {
+            seen.flips.run(n, m, release, &mut apart, faulty)?;
         }
     }
     Ok(())

@@ -12,6 +12,7 @@ mod beside;
 mod damaged;
 mod drawing;
 mod faults;
+mod flips;
 mod known;
 mod late;
 mod lent;

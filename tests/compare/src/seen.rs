@@ -1,6 +1,7 @@
 //! All that is seen of the library beside the model, and whether it shows all that is to be compared.
 use crate::beside::{differ, Agreed};
 use crate::damaged::Damaged;
+use crate::flips::Flips;
 use crate::late::Late;
 use crate::marks::Marks;
 use crate::reads::Reads;
@@ -21,6 +22,7 @@ pub struct Seen {
     pub marks: Marks,
     pub releases: Releases,
     pub damaged: Damaged,
+    pub flips: Flips,
     pub reads: Reads,
 }
 
@@ -45,6 +47,7 @@ impl Seen {
         );
         self.marks.print();
         self.releases.print();
+        self.flips.print();
         self.print_steps();
         self.reads.print();
     }
@@ -129,6 +132,8 @@ impl Seen {
             "withdrawn frames"
         } else if !self.marks.shows_all() {
             "the mark"
+        } else if !self.flips.shows_all() {
+            "flipped bits"
         } else if [refused, early].contains(&0) {
             "the last timestamp"
         } else if wrapped.contains(&0) {
