@@ -6,7 +6,7 @@ ghost use lib.ListN.{length};
 use csv::splitting::HELD_BYTES;
 use libc::STDIN_FILENO;
 use libc::STDOUT_FILENO;
-use schedule::Rack;
+use schedule::Progress;
 use schedule::chunks::CHUNK_BYTES;
 use schedule::chunks::OUT_BYTES;
 use schedule::chunks::run_chunk;
@@ -14,8 +14,8 @@ use schedule::chunks::run_end;
 use schedule::chunks::start;
 
 // A run, whether there may be more input, and whether all reads and writes went well so far.
-struct Course {
-    rack: Rack,
+struct Reading {
+    progress: Progress,
     goes_on: bool,
     is_well: bool,
 }
@@ -31,30 +31,34 @@ fn write_first(out: &[u8], n: usize) -> bool
     is_written
 }
 
-fn over(rack: Rack, is_well: bool) -> Course {
-    Course {
-        rack: rack,
+fn over(progress: Progress, is_well: bool) -> Reading {
+    Reading {
+        progress: progress,
         goes_on: false,
         is_well: is_well,
     }
 }
 
 // Reads once, and answers what came.
-fn read_some(rack: Rack, line: &mut [u8; HELD_BYTES], out: &mut [u8; OUT_BYTES]) -> Course {
+fn read_some(
+    progress: Progress,
+    line: &mut [u8; HELD_BYTES],
+    out: &mut [u8; OUT_BYTES],
+) -> Reading {
     let mut chunk = [0u8; CHUNK_BYTES];
     let got = libc::read(STDIN_FILENO, &mut chunk);
     if got < 0 {
         os::fail(b"rack: the input cannot be read");
-        return over(rack, false);
+        return over(progress, false);
     }
     if got == 0 {
-        return over(rack, true);
+        return over(progress, true);
     }
     let n = io::count(got, &chunk);
-    let next = run_chunk(rack, line, &chunk, n, out);
+    let next = run_chunk(progress, line, &chunk, n, out);
     let is_written = write_first(out, next.wrote);
-    Course {
-        rack: next,
+    Reading {
+        progress: next,
         goes_on: is_written,
         is_well: is_written,
     }
@@ -62,10 +66,10 @@ fn read_some(rack: Rack, line: &mut [u8; HELD_BYTES], out: &mut [u8; OUT_BYTES])
 
 // A proved loop has to end, and nothing says that an input does: so this one counts its turns down, from a number that no run uses
 // up.
-fn read_all(line: &mut [u8; HELD_BYTES], out: &mut [u8; OUT_BYTES]) -> Course {
-    let rack = start();
-    let mut c = Course {
-        rack: rack,
+fn read_all(line: &mut [u8; HELD_BYTES], out: &mut [u8; OUT_BYTES]) -> Reading {
+    let progress = start();
+    let mut c = Reading {
+        progress: progress,
         goes_on: true,
         is_well: true,
     };
@@ -74,15 +78,15 @@ fn read_all(line: &mut [u8; HELD_BYTES], out: &mut [u8; OUT_BYTES]) -> Course {
         if !c.goes_on {
             return c;
         }
-        c = read_some(c.rack, line, out);
+        c = read_some(c.progress, line, out);
         turns -= 1;
     }
     c
 }
 
 // Answers the last line, if no LF ends it.
-fn finish(rack: Rack, line: &[u8; HELD_BYTES], out: &mut [u8; OUT_BYTES]) {
-    let n = run_end(rack, line, out);
+fn finish(progress: Progress, line: &[u8; HELD_BYTES], out: &mut [u8; OUT_BYTES]) {
+    let n = run_end(progress, line, out);
     write_first(out, n);
 }
 
@@ -91,6 +95,6 @@ fn main() {
     let mut out = [0u8; OUT_BYTES];
     let c = read_all(&mut line, &mut out);
     if c.is_well {
-        finish(c.rack, &line, &mut out);
+        finish(c.progress, &line, &mut out);
     }
 }

@@ -17,9 +17,9 @@ use Rattle.bytes.specs.Bytes.{indexOf, indexAfter, slice}
 use Rattle.csv.specs.Reading.{lfByte}
 use Rattle.csv.specs.Splitting.{chop, heldBytes}
 use Rattle.csv.proofs.SetsLaws.{sets-sets}
-use Rattle.schedule.specs.declared.Rack.{Rack}
+use Rattle.schedule.specs.declared.Progress.{Progress}
 use Rattle.schedule.specs.Schedule.{effectOf, nextNumber}
-use Rattle.schedule.specs.Chunks.{Session, afterByte, textAt, afterBytes, textOf, textAtEnd, lastText, sessionOf, part, Taken}
+use Rattle.schedule.specs.Chunks.{Session, afterByte, textAt, afterBytes, textOf, textAtEnd, lastText, sessionOf, part, Consumed}
 use Rattle.schedule.proofs.Whole.{take-again, byte-after, byte-text, lf-after, lf-text, after-append, text-append}
 
 -- ---- the bytes before the first LF
@@ -140,8 +140,8 @@ module _ (s : Session) (chunk : List ℕ) (i j : ℕ) (le : i ≤ j) where
   length-join = sym (length-append (take i chunk) (part i j chunk)) ∙ ap length parts-join
 
 -- the bytes up to i taken, and then those up to j
-pub taken-more : (s : Rack) (line out chunk : List ℕ) (i j : ℕ) → i ≤ j → (x y : Rack) (line' out' line'' out'' : List ℕ)
-    → Taken 0 0 s line out (take i chunk) x line' out' → Taken (x .took) (x .wrote) x line' out' (part i j chunk) y line'' out'' → Taken 0 0 s line out (take j chunk) y line'' out''
+pub taken-more : (s : Progress) (line out chunk : List ℕ) (i j : ℕ) → i ≤ j → (x y : Progress) (line' out' line'' out'' : List ℕ)
+    → Consumed 0 0 s line out (take i chunk) x line' out' → Consumed (x .consumed) (x .wrote) x line' out' (part i j chunk) y line'' out'' → Consumed 0 0 s line out (take j chunk) y line'' out''
 taken-more s line out chunk i j le x y line' out' line'' out'' t u =
     let first : List ℕ = textOf (sessionOf s line) (take i chunk) in
     let then : List ℕ = textOf (sessionOf x line') (part i j chunk) in
@@ -150,21 +150,21 @@ taken-more s line out chunk i j le x y line' out' line'' out'' t u =
     record {
       session = u .session ∙ stands;
       held = u .held ∙ ap (λ (z : Session). length (z .held)) stands;
-      took = omega (arith, u .took, t .took, length-join (sessionOf s line) chunk i j le);
+      consumed = omega (arith, u .consumed, t .consumed, length-join (sessionOf s line) chunk i j le);
       written = u .written ∙ ap (λ (o : List ℕ). sets o (x .wrote) then) (t .written) ∙ sets-sets out 0 (x .wrote) first then (t .wrote) ∙ ap (sets out 0) both;
       wrote = omega (arith, u .wrote, t .wrote, ap length both, length-append first then);
       room = u .room;
     }
 
--- by another name for the rack and for the bytes
-pub taken-as : (s t : Rack) (line out c d : List ℕ) (r : Rack) (line' out' : List ℕ) → sessionOf t line ≡ sessionOf s line → c ≡ d → Taken 0 0 t line out c r line' out' → Taken 0 0 s line out d r line' out'
+-- by another name for the progress and for the bytes
+pub taken-as : (s t : Progress) (line out c d : List ℕ) (r : Progress) (line' out' : List ℕ) → sessionOf t line ≡ sessionOf s line → c ≡ d → Consumed 0 0 t line out c r line' out' → Consumed 0 0 s line out d r line' out'
 taken-as s t line out c d r line' out' e f u =
     let text = ap (λ (z : Session). textOf z c) e ∙ ap (textOf (sessionOf s line)) f in
     let stands = ap (λ (z : Session). afterBytes z c) e ∙ ap (afterBytes (sessionOf s line)) f in
     record {
       session = u .session ∙ stands;
       held = u .held ∙ ap (λ (z : Session). length (z .held)) stands;
-      took = omega (arith, u .took, ap length f);
+      consumed = omega (arith, u .consumed, ap length f);
       written = u .written ∙ ap (sets out 0) text;
       wrote = omega (arith, u .wrote, ap length text);
       room = u .room;

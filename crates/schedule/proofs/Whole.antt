@@ -13,7 +13,7 @@ use Rattle.csv.specs.Reading.{lfByte, lineOf}
 use Rattle.csv.proofs.ReadingLaws.{line-long}
 use Rattle.csv.specs.Splitting.{chop, linesAfter, heldBytes}
 use Rattle.schedule.specs.Schedule.{Effect, effectOf, nextNumber, outputOf, scheduleText}
-use Rattle.schedule.specs.Chunks.{Session, atStart, withByte, lineEffect, afterLine, afterByte, textAt, afterBytes, textOf, textAtEnd, lastText, printed, inputOf, startRack, sessionOf}
+use Rattle.schedule.specs.Chunks.{Session, atStart, withByte, lineEffect, afterLine, afterByte, textAt, afterBytes, textOf, textAtEnd, lastText, printed, inputOf, started, sessionOf}
 
 -- ---- a line of which only the first heldBytes are held is refused as the whole line is
 
@@ -148,7 +148,7 @@ pub whole : (cs : List (List ℕ)) → printed atStart cs ≡ scheduleText (inpu
 unfolding scheduleText
 whole cs = in-turn atStart cs ∙ good (inputOf cs) [] (atStart .board) (atStart .number)
 
--- The code's first rack is at the start, whatever the lent line holds.
-pub starts : (line : List ℕ) → sessionOf startRack line ≡ atStart
-unfolding startRack
+-- The code's first progress is at the start, whatever the lent line holds.
+pub starts : (line : List ℕ) → sessionOf started line ≡ atStart
+unfolding started
 starts line = refl

@@ -12,7 +12,7 @@ use Rattle.board.specs.Boards.{freshBoard}
 use Rattle.board.specs.Steps.{smallest}
 use Rattle.csv.specs.Reading.{lfByte}
 use Rattle.csv.specs.Splitting.{chop, heldBytes}
-use Rattle.schedule.specs.declared.Rack.{Rack}
+use Rattle.schedule.specs.declared.Progress.{Progress}
 use Rattle.schedule.specs.Schedule.{Effect, effectOf, firstNumber, nextNumber}
 
 -- the line so far, as much of it as is held; the board, and the number of the line
@@ -71,25 +71,25 @@ unfoldable pub inputOf : List (List ℕ) → List ℕ
 inputOf [] = []
 inputOf (c ∷ cs) = c ++ inputOf cs
 
--- the session that stands in a rack and its lent line
-abbrev pub sessionOf : Rack → List ℕ → Session
+-- the session that stands in a progress and its lent line
+abbrev pub sessionOf : Progress → List ℕ → Session
 sessionOf r line = record { held = take (r .held) line; board = r .board; number = r .number }
 
--- a rack before the first byte
-unfoldable pub startRack : Rack
-startRack = record { board = atStart .board; number = atStart .number; held = 0; took = 0; wrote = 0 }
+-- a progress before the first byte
+unfoldable pub started : Progress
+started = record { board = atStart .board; number = atStart .number; held = 0; consumed = 0; wrote = 0 }
 
 -- the bytes of a chunk from place i up to place j
 abbrev pub part : ℕ → ℕ → List ℕ → List ℕ
 part i j chunk = take (j - i) (drop i chunk)
 
--- the run s has taken these bytes, from place t of the chunk on: where it stands after them as r, how many bytes are taken and held, and what
+-- the run s has consumed these bytes, from place t of the chunk on: where it stands after them as r, how many bytes are consumed and held, and what
 -- it has written into the output from place p on. The line that holds what is held was line, and is line'; what stands there beyond it is
 -- left open. The output was out, and is out'
-pub record Taken (t p : ℕ) (s : Rack) (line out bytes : List ℕ) (r : Rack) (line' out' : List ℕ) : Type 0 where
+pub record Consumed (t p : ℕ) (s : Progress) (line out bytes : List ℕ) (r : Progress) (line' out' : List ℕ) : Type 0 where
   pub session : sessionOf r line' ≡ afterBytes (sessionOf s line) bytes
   pub held : r .held ≡ length (afterBytes (sessionOf s line) bytes .held)
-  pub took : r .took ≡ t + length bytes
+  pub consumed : r .consumed ≡ t + length bytes
   pub written : out' ≡ sets out p (textOf (sessionOf s line) bytes)
   pub wrote : r .wrote ≡ p + length (textOf (sessionOf s line) bytes)
   pub room : r .wrote ≤ length out'

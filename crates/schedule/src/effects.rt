@@ -17,7 +17,7 @@ use csv::writing::put_line;
 use verbs::step_known;
 
 // The board after a line, and how far the output is written.
-pub(crate) struct Ran {
+pub(crate) struct LineRun {
     pub board: Board,
     pub wrote: usize,
 }
@@ -78,7 +78,7 @@ pub(crate) fn run_line(
     line: &[u8],
     out: &mut [u8],
     at: usize,
-) -> Ran
+) -> LineRun
     requires { ⌜ at + lineBytes ≤ length (now out) ⌝ }
     requires { ⌜ formed ≡ wellFormed b ⌝ }
     ensures { λ r. ⌜ (r .wrote ≤ at + lineBytes) × (r .board ≡ effectOf b number (now (line .entry)) .board) × (r .wrote ≡ at + length (effectOf b number (now (line .entry)) .text)) × (now (out .exit) ≡ sets (now (out .entry)) at (effectOf b number (now (line .entry)) .text)) ⌝ }
@@ -86,7 +86,7 @@ pub(crate) fn run_line(
     let a = answer_to(line, b, formed);
     let end = put_line(out, at, output_of(number, a));
     let next = board_after(b, a);
-    Ran {
+    LineRun {
         board: next,
         wrote: end,
     }

@@ -5,11 +5,11 @@ pub mod chunks;
 mod effects;
 
 // Where a run over an input stands: the board, the number of the line, how many bytes of the line are held in the lent line, and
-// how many bytes the run has taken from the lent chunk and written into the lent output.
-pub struct Rack {
+// how many bytes the run has consumed of the lent chunk and written into the lent output.
+pub struct Progress {
     pub board: Board,
     pub number: u64,
     pub held: usize,
-    pub took: usize,
+    pub consumed: usize,
     pub wrote: usize,
 }

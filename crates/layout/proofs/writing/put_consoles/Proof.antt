@@ -43,7 +43,14 @@ loop-less : tie.Need-loop-less Inv-loop μ-loop
 loop-less c = search needs
 
 loop-again : tie.Need-loop-again Inv-loop μ-loop
-loop-again c = (search needs, rw (c .before .before .put-console .ensures .0, c .before .before .before .before .before .before .loop .inv .1) (put-more _ _ _ _ _ _), bytes-more (c .before .before .before .before .before .before .before .before .args .t2) _ (c .before .before .before .before .before .before .loop .inv .2) (c .before .before .put-console .ensures .1))
+loop-again c =
+    let put = c .before .before in
+    let turn = put .before .before .before .before in
+    let args = turn .before .before .args in (
+      search needs,
+      rw (put .put-console .ensures .0, turn .loop .inv .1) (put-more _ _ _ _ _ _),
+      bytes-more (args .t2) _ (turn .loop .inv .2) (put .put-console .ensures .1),
+    )
 
 same-length : tie.Need-same-length Inv-loop μ-loop
 same-length c = ap length (c .before .loop .inv .1) ∙ consoles-long _ _ _

@@ -9,7 +9,7 @@ use lib.Seq.{take-length}
 use Rattle.board.specs.WellFormed.{wellFormed}
 use Rattle.csv.specs.Writing.{lineBytes}
 use Rattle.csv.specs.Splitting.{heldBytes}
-use Rattle.schedule.specs.Chunks.{afterBytes, textOf, Taken}
+use Rattle.schedule.specs.Chunks.{afterBytes, textOf, Consumed}
 use Rattle.schedule.proofs.ScheduleLaws.{still-formed}
 use Rattle.schedule.proofs.ChunksLaws.{taken-more, taken-as}
 use borrow.Author.Needs.{needs}
@@ -18,16 +18,16 @@ use Rattle.schedule.proofs.chunks.take_all.Tie as tie
 
 abbrev Inv-loop : tie.InvT-loop
 Inv-loop line₀ chunk out₀ r₀ formed₀ line out r formed =
-    (r .took ≤ length chunk)
+    (r .consumed ≤ length chunk)
     × (length line ≡ length line₀)
     × (r .held ≤ heldBytes)
     × (length out ≡ length out₀)
-    × (r .wrote ≤ r .took * lineBytes)
+    × (r .wrote ≤ r .consumed * lineBytes)
     × (formed ≡ wellFormed (r .board))
-    × Taken 0 0 r₀ line₀ out₀ (take (r .took) chunk) r line out
+    × Consumed 0 0 r₀ line₀ out₀ (take (r .consumed) chunk) r line out
 
 abbrev μ-loop : tie.MeasureT-loop
-μ-loop line₀ chunk out₀ r₀ formed₀ line out r formed = length chunk - r .took
+μ-loop line₀ chunk out₀ r₀ formed₀ line out r formed = length chunk - r .consumed
 
 is-well-formed-requires : tie.Need-is-well-formed-requires Inv-loop μ-loop
 is-well-formed-requires c κs = search needs
@@ -43,7 +43,7 @@ loop-holds c =
       refl,
       omega arith,
       c .is-well-formed .ensures,
-      record { session = refl; held = omega (arith, length-take held line); took = refl; written = refl; wrote = refl; room = omega arith },
+      record { session = refl; held = omega (arith, length-take held line); consumed = refl; written = refl; wrote = refl; room = omega arith },
     )
 
 take-line-requires : tie.Need-take-line-requires Inv-loop μ-loop
@@ -60,7 +60,7 @@ loop-again c =
     let asked = c .before .before in
     let taken = asked .before .before .before .before .before in
     let turn = taken .before .before .before .before .before in
-    let le : turn .loop .r .took ≤ taken .take-line .result .took = omega arith in (
+    let le : turn .loop .r .consumed ≤ taken .take-line .result .consumed = omega arith in (
       omega arith,
       search needs,
       omega arith,
@@ -77,7 +77,7 @@ loop-again-2 : tie.Need-loop-again-2 Inv-loop μ-loop
 loop-again-2 c =
     let taken = c .before .before .before .before .before in
     let turn = taken .before .before .before .before .before in
-    let le : turn .loop .r .took ≤ taken .take-line .result .took = omega arith in (
+    let le : turn .loop .r .consumed ≤ taken .take-line .result .consumed = omega arith in (
       omega arith,
       search needs,
       omega arith,
@@ -97,8 +97,8 @@ returns : tie.Need-returns Inv-loop μ-loop
 returns c =
     let over = c .before .before in
     let chunk : List ℕ = over .before .before .before .before .before .before .args .chunk .now in
-    let n : over .loop .r .took ≡ length chunk = omega arith in
-    let all : take (over .loop .r .took) chunk ≡ chunk = ap (λ (k : ℕ). take k chunk) n ∙ take-length chunk in
+    let n : over .loop .r .consumed ≡ length chunk = omega arith in
+    let all : take (over .loop .r .consumed) chunk ≡ chunk = ap (λ (k : ℕ). take k chunk) n ∙ take-length chunk in
     taken-as _ _ _ _ _ _ _ _ _ refl all (over .loop .inv .6)
 
 pub take-all-spec : {M : Type 1} → statement M
