@@ -93,7 +93,9 @@ and-left false y h = h
 
 quoted-long : (s : List ℕ) → quoted s ≡ true → 2 ≤ length s
 unfolding quoted
-quoted-long s e = leb-true 2 (length s) (and-left (leb 2 (length s)) (eqb (getD s 0 0) quoteByte) (and-left (leb 2 (length s) && eqb (getD s 0 0) quoteByte) (eqb (getD s (length s - 1) 0) quoteByte) e))
+quoted-long s e =
+    let opened = and-left (leb 2 (length s) && eqb (getD s 0 0) quoteByte) (eqb (getD s (length s - 1) 0) quoteByte) e in
+    leb-true 2 (length s) (and-left (leb 2 (length s)) (eqb (getD s 0 0) quoteByte) opened)
 
 pub cut-room : (s : List ℕ) (a e : ℕ) → e ≤ length s → quoted (take (e - a) (drop a s)) ≡ true → a + 2 ≤ e
 cut-room s a e h q = omega (arith, quoted-long (take (e - a) (drop a s)) q, length-take-le (e - a) (drop a s) (omega (arith, length-drop a s)))

@@ -22,7 +22,10 @@ shared-slice-read-if1 : tie.Need-shared-slice-read-if1 Inv-loop μ-loop
 shared-slice-read-if1 c = search needs
 
 returns : tie.Need-returns Inv-loop μ-loop
-returns c = (omega (arith, index-hit (c .before .before .before .before .args .s .now) commaByte (c .before .before .before .loop .i) (c .before .before .loop-test .taken) (c .if1 .taken)), search needs)
+returns c =
+    let more = c .before .before in
+    let turn = more .before in
+    (omega (arith, index-hit (turn .before .args .s .now) commaByte (turn .loop .i) (more .loop-test .taken) (c .if1 .taken)), search needs)
 
 add-i : tie.Need-add-i Inv-loop μ-loop
 add-i c = search needs
@@ -31,7 +34,10 @@ loop-less : tie.Need-loop-less Inv-loop μ-loop
 loop-less c = search needs
 
 loop-again : tie.Need-loop-again Inv-loop μ-loop
-loop-again c = (search needs, omega (arith, index-miss (c .before .before .before .before .args .s .now) commaByte (c .before .before .before .loop .i) (c .before .before .loop-test .taken) (c .if1 .left)))
+loop-again c =
+    let more = c .before .before in
+    let turn = more .before in
+    (search needs, omega (arith, index-miss (turn .before .args .s .now) commaByte (turn .loop .i) (more .loop-test .taken) (c .if1 .left)))
 
 returns-2 : tie.Need-returns-2 Inv-loop μ-loop
 returns-2 c = (omega (arith, index-end (c .before .before .args .s .now) commaByte (c .before .loop .i) (c .loop-test .left)), search needs)
