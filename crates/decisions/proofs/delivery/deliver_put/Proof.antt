@@ -26,7 +26,10 @@ accept-requires c κs = search needs
 
 returns-2 : tie.Need-returns-2
 unfolding onPut
-returns-2 c = λ h g. c .accept .ensures ∙ ap (λ (y : Node). accept None Handed (NodeTo y) (One Ack)) (c .before .take-put .ensures h g) ∙ sym (guarded-yes _ _ _ _ (said-yes refl (c .before .before .if1 .left)) ∙ guarded-end _ _)
+returns-2 c = λ h g.
+    c .accept .ensures
+    ∙ ap (λ (y : Node). accept None Handed (NodeTo y) (One Ack)) (c .before .take-put .ensures h g)
+    ∙ sym (guarded-yes _ _ _ _ (said-yes refl (c .before .before .if1 .left)) ∙ guarded-end _ _)
 
 pub deliver-put-spec : {M : Type 1} → statement M
 deliver-put-spec = tie.close (tie.spec returns take-put-requires accept-requires returns-2)

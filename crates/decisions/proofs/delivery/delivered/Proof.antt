@@ -48,7 +48,14 @@ returns-5 c =
     let n = f .before .before in
     let m = n .before .before .before in
     let q = m .before .before .before in
-    λ _. rw (not-false (q .before .args .formed) (q .if1 .left), lt-ltb _ _ (m .if2 .left), lt-ltb _ _ (n .if3 .left), sym (f .before .is-nothing .ensures) ∙ f .if4 .left, sym (c .before .before .is-withdrawn .ensures) ∙ c .before .if5 .taken) (c .discard .ensures)
+    λ _. rw (
+      not-false (q .before .args .formed) (q .if1 .left),
+      lt-ltb _ _ (m .if2 .left),
+      lt-ltb _ _ (n .if3 .left),
+      sym (f .before .is-nothing .ensures) ∙ f .if4 .left,
+      sym (c .before .before .is-withdrawn .ensures) ∙ c .before .if5 .taken,
+    )
+    (c .discard .ensures)
 
 deliver-frame-requires : tie.Need-deliver-frame-requires
 deliver-frame-requires c κs = search needs
@@ -61,7 +68,14 @@ returns-6 c =
     let m = n .before .before .before in
     let q = m .before .before .before in
     let formed = not-false (q .before .args .formed) (q .if1 .left) in
-    λ h. rw (formed, lt-ltb _ _ (m .if2 .left), lt-ltb _ _ (n .if3 .left), sym (f .before .is-nothing .ensures) ∙ f .if4 .left, sym (c .before .before .is-withdrawn .ensures) ∙ c .before .if5 .left) (c .deliver-frame .ensures (h formed (m .if2 .left) (n .if3 .left)))
+    λ h. rw (
+      formed,
+      lt-ltb _ _ (m .if2 .left),
+      lt-ltb _ _ (n .if3 .left),
+      sym (f .before .is-nothing .ensures) ∙ f .if4 .left,
+      sym (c .before .before .is-withdrawn .ensures) ∙ c .before .if5 .left,
+    )
+    (c .deliver-frame .ensures (h formed (m .if2 .left) (n .if3 .left)))
 
 pub delivered-spec : {M : Type 1} → statement M
 delivered-spec =

@@ -19,7 +19,9 @@ hear-requires c κs = search needs
 
 returns : tie.Need-returns
 unfolding replied
-returns c = simp (sym (c .before .before .before .set-size .ensures), sym (c .before .before .ask-size .ensures), lt-ltb _ _ (c .before .if1 .taken)) (c .hear .ensures)
+returns c =
+    let few = c .before in
+    simp (sym (few .before .before .set-size .ensures), sym (few .before .ask-size .ensures), lt-ltb _ _ (few .if1 .taken)) (c .hear .ensures)
 
 finishes-early-requires : tie.Need-finishes-early-requires
 finishes-early-requires c κs = search needs
@@ -29,14 +31,32 @@ finish-requires c κs = search needs
 
 returns-2 : tie.Need-returns-2
 unfolding replied
-returns-2 c = simp (sym (c .before .before .before .before .before .set-size .ensures), sym (c .before .before .before .before .ask-size .ensures), le-ltb _ _ (c .before .before .before .if1 .left), sym (c .before .before .finishes-early .ensures) ∙ c .before .if2 .taken) (c .finish .ensures)
+returns-2 c =
+    let early = c .before in
+    let enough = early .before .before in
+    simp (
+      sym (enough .before .before .set-size .ensures),
+      sym (enough .before .ask-size .ensures),
+      le-ltb _ _ (enough .if1 .left),
+      sym (early .before .finishes-early .ensures) ∙ early .if2 .taken,
+    )
+    (c .finish .ensures)
 
 has-next-requires : tie.Need-has-next-requires
 has-next-requires c κs = search needs
 
 returns-3 : tie.Need-returns-3
 unfolding replied
-returns-3 c = simp (sym (c .before .before .before .before .before .before .set-size .ensures), sym (c .before .before .before .before .before .ask-size .ensures), le-ltb _ _ (c .before .before .before .before .if1 .left), sym (c .before .before .before .finishes-early .ensures) ∙ c .before .before .if2 .left) (sym (guarded-no _ _ _ _ (said-no (c .before .has-next .ensures) (c .if3 .taken))))
+returns-3 c =
+    let early = c .before .before in
+    let enough = early .before .before in
+    simp (
+      sym (enough .before .before .set-size .ensures),
+      sym (enough .before .ask-size .ensures),
+      le-ltb _ _ (enough .if1 .left),
+      sym (early .before .finishes-early .ensures) ∙ early .if2 .left,
+    )
+    (sym (guarded-no _ _ _ _ (said-no (c .before .has-next .ensures) (c .if3 .taken))))
 
 turn-requires : tie.Need-turn-requires
 turn-requires c κs = search needs
@@ -47,7 +67,13 @@ returns-4 c =
     let next = said-yes (c .before .before .has-next .ensures) (c .before .if3 .left) in
     let early = c .before .before .before in
     let enough = early .before .before in
-    simp (sym (enough .before .before .set-size .ensures), sym (enough .before .ask-size .ensures), le-ltb _ _ (enough .if1 .left), sym (early .before .finishes-early .ensures) ∙ early .if2 .left) (c .turn .ensures (λ w. ltb-true _ _ (implied _ _ next w)) ∙ sym (guarded-yes _ _ _ _ next ∙ guarded-end _ _))
+    simp (
+      sym (enough .before .before .set-size .ensures),
+      sym (enough .before .ask-size .ensures),
+      le-ltb _ _ (enough .if1 .left),
+      sym (early .before .finishes-early .ensures) ∙ early .if2 .left,
+    )
+    (c .turn .ensures (λ w. ltb-true _ _ (implied _ _ next w)) ∙ sym (guarded-yes _ _ _ _ next ∙ guarded-end _ _))
 
 pub take-reply-spec : {M : Type 1} → statement M
 take-reply-spec =

@@ -23,13 +23,23 @@ returns : tie.Need-returns
 unfolding hears takesIn
 returns c = λ h i j.
     let how = c .before .before .before .compared-with .ensures j i in
-    simp (c .before .before .before .before .with-member .ensures h, c .before .before .is-still-alike .ensures, how, sym (higher-greater _ _) ∙ ap isHigher (sym how) ∙ sym (c .before .is-higher .ensures) ∙ c .if1 .taken)
+    simp (
+      c .before .before .before .before .with-member .ensures h,
+      c .before .before .is-still-alike .ensures,
+      how,
+      sym (higher-greater _ _) ∙ ap isHigher (sym how) ∙ sym (c .before .is-higher .ensures) ∙ c .if1 .taken,
+    )
 
 returns-2 : tie.Need-returns-2
 unfolding hears takesIn
 returns-2 c = λ h i j.
     let how = c .before .before .before .compared-with .ensures j i in
-    simp (c .before .before .before .before .with-member .ensures h, c .before .before .is-still-alike .ensures, how, sym (higher-greater _ _) ∙ ap isHigher (sym how) ∙ sym (c .before .is-higher .ensures) ∙ c .if1 .left)
+    simp (
+      c .before .before .before .before .with-member .ensures h,
+      c .before .before .is-still-alike .ensures,
+      how,
+      sym (higher-greater _ _) ∙ ap isHigher (sym how) ∙ sym (c .before .is-higher .ensures) ∙ c .if1 .left,
+    )
 
 pub hear-reply-spec : {M : Type 1} → statement M
 hear-reply-spec =

@@ -51,7 +51,14 @@ returns-5 c =
     let u = i .before .before in
     let m = u .before .before in
     let q = m .before .before .before in
-    rw (not-false (q .before .args .formed) (q .if1 .left), lt-ltb _ _ (m .if2 .left), said-yes (u .before .is-up .ensures) (u .if3 .left), said-yes (i .before .is-idle .ensures) (i .if4 .left), c .done .ensures, c .before .ask .ensures)
+    rw (
+      not-false (q .before .args .formed) (q .if1 .left),
+      lt-ltb _ _ (m .if2 .left),
+      said-yes (u .before .is-up .ensures) (u .if3 .left),
+      said-yes (i .before .is-idle .ensures) (i .if4 .left),
+      c .done .ensures,
+      c .before .ask .ensures,
+    )
 
 pub begin-spec : {M : Type 1} → statement M
 begin-spec =

@@ -41,7 +41,9 @@ returns-4 c =
     let u = c .before .before in
     let n = u .before .before in
     let q = n .before .before .before in
-    c .done .ensures ∙ ap (λ (y : Node). accept None Done (NodeTo y) Keep) (c .before .set-up .ensures) ∙ sym (rw (not-false (q .before .args .formed) (q .if1 .left), lt-ltb _ _ (n .if2 .left), not-false (q .before .args .y .up) (u .if3 .left)))
+    c .done .ensures
+    ∙ ap (λ (y : Node). accept None Done (NodeTo y) Keep) (c .before .set-up .ensures)
+    ∙ sym (rw (not-false (q .before .args .formed) (q .if1 .left), lt-ltb _ _ (n .if2 .left), not-false (q .before .args .y .up) (u .if3 .left)))
 
 pub fall-spec : {M : Type 1} → statement M
 fall-spec = tie.close (tie.spec returns returns-2 returns-3 set-up-requires done-requires returns-4)

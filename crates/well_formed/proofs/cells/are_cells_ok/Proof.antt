@@ -42,7 +42,10 @@ is-cell-ok-requires c κs = search needs
 
 returns : tie.Need-returns Inv-loop μ-loop
 unfolding cellsOk rowOk frameIn cellIndex
-returns c = sym (every-fails _ _ _ (c .before .before .before .loop-test .taken) (every-fails _ _ _ (c .before .before .before .before .loop .inv .1) (said-no (c .before .is-cell-ok .ensures) (c .if1 .taken))))
+returns c =
+    let more = c .before .before .before in
+    let fails = said-no (c .before .is-cell-ok .ensures) (c .if1 .taken) in
+    sym (every-fails _ _ _ (more .loop-test .taken) (every-fails _ _ _ (more .before .loop .inv .1) fails))
 
 add-k : tie.Need-add-k Inv-loop μ-loop
 add-k c = search needs
@@ -55,20 +58,30 @@ loop-less c = search needs
 
 loop-again : tie.Need-loop-again Inv-loop μ-loop
 unfolding rowOk frameIn cellIndex
-loop-again c = (
-  search needs,
-  search needs,
-  every-more _ _ (c .before .before .before .before .before .loop .inv .2)
-      (every-done _ _ _ (omega (arith, c .if2 .taken, c .before .before .before .before .before .loop .inv .1)) (omega (arith, c .if2 .taken)) (every-more _ _ (c .before .before .before .before .before .loop .inv .3) (said-yes (c .before .before .is-cell-ok .ensures) (c .before .if1 .left)))),
-  every-none _,
-)
+loop-again c =
+    let passed = c .before in
+    let turn = passed .before .before .before .before in
+    let passes = said-yes (passed .before .is-cell-ok .ensures) (passed .if1 .left) in (
+      search needs,
+      search needs,
+      every-more _ _ (turn .loop .inv .2)
+          (every-done _ _ _ (omega (arith, c .if2 .taken, turn .loop .inv .1)) (omega (arith, c .if2 .taken)) (every-more _ _ (turn .loop .inv .3) passes)),
+      every-none _,
+    )
 
 loop-less-2 : tie.Need-loop-less-2 Inv-loop μ-loop
 loop-less-2 c = search needs
 
 loop-again-2 : tie.Need-loop-again-2 Inv-loop μ-loop
 unfolding frameIn cellIndex
-loop-again-2 c = (search needs, search needs, c .before .before .before .before .before .loop .inv .2, every-more _ _ (c .before .before .before .before .before .loop .inv .3) (said-yes (c .before .before .is-cell-ok .ensures) (c .before .if1 .left)))
+loop-again-2 c =
+    let passed = c .before in
+    let turn = passed .before .before .before .before in (
+      search needs,
+      search needs,
+      turn .loop .inv .2,
+      every-more _ _ (turn .loop .inv .3) (said-yes (passed .before .is-cell-ok .ensures) (passed .if1 .left)),
+    )
 
 returns-2 : tie.Need-returns-2 Inv-loop μ-loop
 unfolding cellsOk

@@ -36,7 +36,11 @@ is-wanted-ok-requires c κs = search needs
 
 returns-3 : tie.Need-returns-3
 unfolding waitOk
-returns-3 c = simp (said-yes (c .before .before .before .before .is-only-below .ensures) (c .before .before .before .if1 .left), sym (c .before .before .set-size .ensures), lt-ltb _ _ (c .before .if2 .left)) (c .is-wanted-ok .ensures)
+returns-3 c =
+    let few = c .before in
+    let inside = few .before .before in
+    simp (said-yes (inside .before .is-only-below .ensures) (inside .if1 .left), sym (few .before .set-size .ensures), lt-ltb _ _ (few .if2 .left))
+    (c .is-wanted-ok .ensures)
 
 pub is-wait-ok-spec : {M : Type 1} → statement M
 is-wait-ok-spec =

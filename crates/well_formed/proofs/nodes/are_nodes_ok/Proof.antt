@@ -45,7 +45,11 @@ loop-less : tie.Need-loop-less Inv-loop μ-loop
 loop-less c = search needs
 
 loop-again : tie.Need-loop-again Inv-loop μ-loop
-loop-again c = (search needs, every-more _ _ (c .before .before .before .before .loop .inv .1) (said-yes (c .before .is-node-ok .ensures ∙ ap (nodeOk _ _) (node-read _ _ (omega arith))) (c .if1 .left)))
+loop-again c = (
+  search needs,
+  every-more _ _ (c .before .before .before .before .loop .inv .1)
+      (said-yes (c .before .is-node-ok .ensures ∙ ap (nodeOk _ _) (node-read _ _ (omega arith))) (c .if1 .left)),
+)
 
 returns-2 : tie.Need-returns-2 Inv-loop μ-loop
 unfolding nodesOk

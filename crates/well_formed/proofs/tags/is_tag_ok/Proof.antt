@@ -23,7 +23,10 @@ is-zero-requires c κs = search needs
 
 returns-4 : tie.Need-returns-4
 unfolding tagOk
-returns-4 c = simp (le-leb _ _ (c .before .before .before .before .before .before .if1 .left), lt-ltb _ _ (c .before .before .before .if2 .left), eq-eqb _ _ (c .before .if3 .left)) (c .is-zero .ensures)
+returns-4 c =
+    let console = c .before .before .before in
+    let ts = console .before .before .before in
+    simp (le-leb _ _ (ts .if1 .left), lt-ltb _ _ (console .if2 .left), eq-eqb _ _ (c .before .if3 .left)) (c .is-zero .ensures)
 
 pub is-tag-ok-spec : {M : Type 1} → statement M
 is-tag-ok-spec = tie.close (tie.spec returns returns-2 returns-3 is-zero-requires returns-4)
