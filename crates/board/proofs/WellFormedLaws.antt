@@ -21,17 +21,21 @@ unfolding tagOk
 tag-below σ t v h = ltb-true (t .console) (σ .m) (and-right (leb (t .ts) maxTs) _ (and-left (leb (t .ts) maxTs && ltb (t .console) (σ .m)) _ h))
 
 module _ (b : Board) (h : wellFormed b ≡ true) where
-  pub setup-part : setupOk (b .setup) ≡ true
+  three-parts : (setupOk (b .setup) && nodesOk (b .setup) (b .nodes) && consolesOk (b .setup) (b .consoles)) ≡ true
   unfolding wellFormed
-  setup-part = and-left (setupOk (b .setup)) _ (and-left (setupOk (b .setup) && nodesOk (b .setup) (b .nodes)) _ (and-left (setupOk (b .setup) && nodesOk (b .setup) (b .nodes) && consolesOk (b .setup) (b .consoles)) _ h))
+  three-parts = and-left (setupOk (b .setup) && nodesOk (b .setup) (b .nodes) && consolesOk (b .setup) (b .consoles)) _ h
+
+  two-parts : (setupOk (b .setup) && nodesOk (b .setup) (b .nodes)) ≡ true
+  two-parts = and-left (setupOk (b .setup) && nodesOk (b .setup) (b .nodes)) _ three-parts
+
+  pub setup-part : setupOk (b .setup) ≡ true
+  setup-part = and-left (setupOk (b .setup)) _ two-parts
 
   nodes-part : nodesOk (b .setup) (b .nodes) ≡ true
-  unfolding wellFormed
-  nodes-part = and-right (setupOk (b .setup)) _ (and-left (setupOk (b .setup) && nodesOk (b .setup) (b .nodes)) _ (and-left (setupOk (b .setup) && nodesOk (b .setup) (b .nodes) && consolesOk (b .setup) (b .consoles)) _ h))
+  nodes-part = and-right (setupOk (b .setup)) _ two-parts
 
   consoles-part : consolesOk (b .setup) (b .consoles) ≡ true
-  unfolding wellFormed
-  consoles-part = and-right (setupOk (b .setup) && nodesOk (b .setup) (b .nodes)) _ (and-left (setupOk (b .setup) && nodesOk (b .setup) (b .nodes) && consolesOk (b .setup) (b .consoles)) _ h)
+  consoles-part = and-right (setupOk (b .setup) && nodesOk (b .setup) (b .nodes)) _ three-parts
 
   cells-part : cellsOk (b .setup) (b .cells) ≡ true
   unfolding wellFormed
@@ -66,7 +70,9 @@ module _ (b : Board) (h : wellFormed b ≡ true) where
 
     best-tag : tagOk (b .setup) (consoleAt b c .best) (consoleAt b c .value) ≡ true
     unfolding consoleOk
-    best-tag = and-left (tagOk (b .setup) (consoleAt b c .best) (consoleAt b c .value)) _ (and-right (markOk (consoleAt b c) (consoleAt b c .state)) _ (rw (lt-ltb c (b .setup .m) cm) at (console-passes c (omega (arith, m-at-most)))))
+    best-tag =
+        let passes = rw (lt-ltb c (b .setup .m) cm) at (console-passes c (omega (arith, m-at-most))) in
+        and-left (tagOk (b .setup) (consoleAt b c .best) (consoleAt b c .value)) _ (and-right (markOk (consoleAt b c) (consoleAt b c .state)) _ passes)
 
     frame-passes : frameOk (b .setup) (frameAt b c k) ≡ true
     unfolding cellOk
