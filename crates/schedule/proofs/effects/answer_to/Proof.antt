@@ -29,11 +29,15 @@ step-known-requires c κs = search needs
 
 returns : tie.Need-returns
 unfolding answerOf
-returns c = c .refused .ensures ∙ ap (λ (l : Line). answerOf l (c .before .before .before .before .before .args .b)) (sym (c .before .enum-told .given .1) ∙ c .before .before .before .read-line .ensures)
+returns c =
+    let line = c .before .before .before in
+    c .refused .ensures ∙ ap (λ (l : Line). answerOf l (line .before .before .args .b)) (sym (c .before .enum-told .given .1) ∙ line .read-line .ensures)
 
 returns-2 : tie.Need-returns-2
 unfolding answerOf
-returns-2 c = c .refused2 .ensures ∙ ap (λ (l : Line). answerOf l (c .before .before .before .before .before .args .b)) (sym (c .before .enum-told2 .given .1) ∙ c .before .before .before .read-line .ensures)
+returns-2 c =
+    let line = c .before .before .before in
+    c .refused2 .ensures ∙ ap (λ (l : Line). answerOf l (line .before .before .args .b)) (sym (c .before .enum-told2 .given .1) ∙ line .read-line .ensures)
 
 returns-3 : tie.Need-returns-3
 unfolding answerOf
