@@ -1,8 +1,5 @@
 -- Words that stand for no board are read as a board of no nodes, which question 1 refuses at every step.
-use mathlib.Core.Bool.{true, false}
-use mathlib.Core.List.{List}
 use mathlib.Core.Path.{_≡_, refl}
-use Prim.Native.Nat.{ℕ}
 use Rattle.well_formed.specs.Clauses.{nodesAllowed, setupOk}
 use Rattle.decisions.specs.Questions.{guarded}
 use Rattle.decisions.specs.Steps.{begins, ends, falls, rises}
@@ -14,7 +11,7 @@ use Rattle.board.specs.Deliver.{deliver}
 use Rattle.board.specs.Runs.{Step, step, BeginRead, BeginWrite, Deliver, NodeDown, ConsoleDown, NodeUp}
 use Rattle.board.specs.Steps.{begin, nodeDown, nodeUp, consoleDown}
 use Rattle.board.specs.WellFormed.{wellFormed}
-use Rattle.layout.specs.Standing.{stands, decoded}
+use Rattle.layout.specs.Standing.{decoded}
 use Rattle.layout.specs.Claims.{DamageRefused}
 
 none-refuses : (s : Step) → step noBoard s ≡ refuse noBoard 1

@@ -1,24 +1,23 @@
 -- A board that was written is read as it was: each part is (PartsBack), and no part is written over another (Stored).
-use Prim.Native.Nat.{ℕ, zero, suc, _+_, _≤_, _<_}
-use mathlib.Core.Bool.{Bool, true}
+use Prim.Native.Nat.{ℕ, _≤_, _<_}
+use mathlib.Core.Bool.{true}
 use mathlib.Core.List.{List}
-use mathlib.Core.Path.{_≡_, refl, sym, ap, _∙_}
+use mathlib.Core.Path.{_≡_, refl, ap, _∙_}
 use mathlib.Core.Logic.{inl}
 use native.Mathlib.Omega.{arith}
 use borrow.Author.Tests.{le-leb}
-use lib.ListN.{length, getD, replicate}
+use lib.ListN.{length, replicate}
 use lib.Seq.{sets, length-sets}
 use Rattle.parts.specs.declared.Frame.the-variants.{Nothing}
 use Rattle.parts.specs.declared.Cell.{Cell}
 use Rattle.parts.specs.declared.Node.{Node}
 use Rattle.parts.specs.declared.Console.{Console}
-use Rattle.parts.specs.Finite.{every}
 use Rattle.parts.specs.Limits.{maxNodes, maxConsoles, maxCells}
 use Rattle.parts.specs.Parts.{freshNode, idleConsole, cellOf}
 use Rattle.parts.proofs.FiniteLaws.{every-of}
 use Rattle.board.specs.declared.Board.{Board}
-use Rattle.layout.specs.Layout.{Typed, setupWords, boardWords, word, nodeOffset, consoleOffset, cellOffset, releaseOf, nodeFrom, consoleFrom, cellFrom, allFrom, boardIn, releaseNumber, setupFields, nodeFields, consoleFields, cellFields, putNodes, putConsoles, putCells, encoded}
-use Rattle.layout.specs.Standing.{releaseStands, nodeStands, consoleStands, cellStands, nodesStand, consolesStand, cellsStand, partsStand, stands, decoded}
+use Rattle.layout.specs.Layout.{Typed, boardWords, word, nodeOffset, consoleOffset, cellOffset, nodeFrom, consoleFrom, cellFrom, allFrom, boardIn, releaseNumber, setupFields, nodeFields, consoleFields, cellFields, putNodes, putConsoles, putCells, encoded}
+use Rattle.layout.specs.Standing.{nodeStands, consoleStands, cellStands, nodesStand, consolesStand, cellsStand, partsStand, stands, decoded}
 use Rattle.layout.specs.Claims.{ReadBack}
 use Rattle.layout.proofs.Stored.{stored-at, stored-first, all-long, all-beside, all-same, from-all}
 use Rattle.layout.proofs.PartsBack.{release-back, release-stands, node-wide, node-reads, node-standing, console-wide, console-reads, console-standing, cell-wide, cell-reads, cell-standing}
