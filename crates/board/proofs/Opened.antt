@@ -1,4 +1,5 @@
--- A step with every definition opened, for proofs by computation: `unfolding openedStep` opens all that a run is computed by.
+-- A step with every definition opened, for proofs by computation: `unfolding openedStep` opens all that a run is
+-- computed by.
 use Rattle.parts.specs.Finite.{every, count}
 use Rattle.parts.specs.Tags.{greater, compared}
 use Rattle.parts.specs.AnsweredSet.{member, insert, size, onlyBelow}

@@ -1,5 +1,6 @@
--- What is decided of console c and node k (decisions/Steps and Deliver), done on the board. A step of a console alone names no node, and
--- one of a node alone no console: 0 stands for the number, and what is decided of such a step does not touch the other part.
+-- What is decided of console c and node k (decisions/Steps and Deliver), done on the board. A step of a console alone
+-- names no node, and one of a node alone no console: 0 stands for the number, and what is decided of such a step does
+-- not touch the other part.
 use Prim.Native.Nat.{ℕ}
 use Rattle.decisions.specs.declared.Part.{Part}
 use Rattle.decisions.specs.declared.Part.the-variants.{Neither, ConsoleTo, NodeTo}

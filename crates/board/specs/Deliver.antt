@@ -1,4 +1,5 @@
--- Deliver (document 01, 'The steps'): what it comes to is decided in decisions/Deliver, by one console, one node and one frame.
+-- Deliver (document 01, 'The steps'): what it comes to is decided in decisions/Deliver, by one console, one node and
+-- one frame.
 use Prim.Native.Nat.{ℕ}
 use Rattle.decisions.specs.Deliver.{delivered}
 use Rattle.board.specs.declared.Board.{Board}

@@ -1,5 +1,6 @@
--- The steps but for deliver (document 01, 'The steps'): fresh, begin read, begin write, node down, console down; and node up
--- (document 02, Paper 2). Each but fresh is what decisions/Steps says of its console or node, its questions with it, done on the board.
+-- The steps but for deliver (document 01, 'The steps'): fresh, begin read, begin write, node down, console down; and
+-- node up (document 02, Paper 2). Each but fresh is what decisions/Steps says of its console or node, its questions
+-- with it, done on the board.
 use Prim.Native.Nat.{ℕ}
 use mathlib.Core.List.{[], _∷_}
 use Rattle.parts.specs.declared.Kind.{Kind}

@@ -1,4 +1,5 @@
--- 'A board is well formed if' (document 01, 'The board'): its setup and each of its parts is. The clauses are in well_formed/Clauses.
+-- 'A board is well formed if' (document 01, 'The board'): its setup and each of its parts is. The clauses are in
+-- well_formed/Clauses.
 use mathlib.Core.Bool.{Bool, _&&_}
 use Rattle.well_formed.specs.Clauses.{setupOk, nodesOk, consolesOk, cellsOk}
 use Rattle.board.specs.declared.Board.{Board}

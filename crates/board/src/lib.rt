@@ -36,6 +36,6 @@ mod answers;
 mod applying;
 mod checking;
 mod delivery;
+mod looking;
 mod making;
-mod places;
 mod steps;

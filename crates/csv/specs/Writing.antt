@@ -1,5 +1,5 @@
--- How a line is written (document 01, 'Lines that programs read and write', and Paper 1). A line is the list of its bytes, with
--- its end.
+-- How a line is written (document 01, 'Lines that programs read and write', and Paper 1). A line is the list of its
+-- bytes, with its end.
 use Prim.Native.Nat.{ℕ, zero, suc, _+_, _*_, _/_, _%_}
 use mathlib.Core.Bool.{cond}
 use mathlib.Core.List.{List, [], _∷_, _++_}

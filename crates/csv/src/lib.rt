@@ -1,5 +1,5 @@
-// Comma-separated lines (document 01, 'Lines that programs read and write'): the lines of an input, a line's fields, a field as a
-// number, a line as three numbers, and a line that is written.
+// Comma-separated lines (document 01, 'Lines that programs read and write'): the lines of an input, a line's fields, a
+// field as a number, a line as three numbers, and a line that is written.
 pub mod fields;
 pub mod numbers;
 pub mod reading;
@@ -20,12 +20,12 @@ pub enum Line {
 }
 
 // The fields of an output line after its number: refusal or 0, outcome, ts, console, value.
-pub const OUTPUT_FIELDS: usize = 5;
+pub const OUTPUT_SIZE: usize = 5;
 
 // Paper 1: 'Each output line has line number, refusal or 0, outcome, ts, console, value'.
 pub struct Output {
     pub number: u64,
-    pub fields: [u32; OUTPUT_FIELDS],
+    pub fields: [u32; OUTPUT_SIZE],
 }
 
 // The most digits of a number of 64 bits.
@@ -35,4 +35,4 @@ pub const NUMBER_BYTES: usize = 20;
 pub const FIELD_BYTES: usize = 11;
 
 // The most bytes of a written line: its number, its fields and its LF.
-pub const LINE_BYTES: usize = NUMBER_BYTES + OUTPUT_FIELDS * FIELD_BYTES + 1;
+pub const LINE_BYTES: usize = NUMBER_BYTES + OUTPUT_SIZE * FIELD_BYTES + 1;

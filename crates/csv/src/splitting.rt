@@ -6,7 +6,8 @@ ghost use lib.ListN.{length, take};
 ghost use Rattle.csv.specs.Splitting.{chop};
 use crate::reading::MAX_LINE;
 
-// How many bytes of a line are held: those of a line, its CR and one more, so that a line that is too long is seen to be.
+// How many bytes of a line are held: those of a line, its CR and one more, so that a line that is too long is seen to
+// be.
 pub const HELD_BYTES: usize = MAX_LINE + 2;
 
 // The lesser of two numbers.

@@ -1,5 +1,5 @@
-// Writing at a running place of a lent output: each function answers the place after what it wrote, and leaves all else as it
-// was. A call has seen that there is room, but for put_line, which others call: it sees to that itself.
+// Writing at a running place of a lent output: each function answers the place after what it wrote, and leaves all else
+// as it was. A call has seen that there is room, but for put_line, which others call: it sees to that itself.
 ghost use mathlib.Core.List.{_∷_};
 ghost use mathlib.Core.Path.{_≡_};
 ghost use Prim.Native.Nat.{_+_, _*_, _<_, _≤_};

@@ -33,8 +33,8 @@ shortBy w s = cond (leb boardWords w) (cond (leb answerWords s) 0 2) 1
 abbrev pub code : List ℕ → List ℕ → ℕ
 code w s = shortBy (length w) (length s)
 
--- a call of a step that answers a: what it returns, and the words of the board and of the answer after it. If memory is short,
--- nothing is written
+-- a call of a step that answers a: what it returns, and the words of the board and of the answer after it. If memory is
+-- short, nothing is written
 pub record Called (a : Answer) (w s : List ℕ) (r : ℕ) (w' s' : List ℕ) : Type 0 where
   pub returned : r ≡ code w s
   pub board : w' ≡ cond (eqb (code w s) 0) (kept w a) w

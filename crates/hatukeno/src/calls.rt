@@ -1,5 +1,5 @@
-// The calls: each puts one step to the board in the lent words w, and writes the answer into the lent words s and the next
-// board back into w (Called).
+// The calls: each puts one step to the board in the lent words w, and writes the answer into the lent words s and the
+// next board back into w (Called).
 ghost use mathlib.Core.Path.{_≡_};
 ghost use Prim.Native.Nat.{_+_, _≤_};
 ghost use lib.ListN.{length};
@@ -79,8 +79,8 @@ fn respond(w: &mut [u32], s: &mut [u32], a: Answer) -> u32
     0
 }
 
-// The fresh board of n nodes and m consoles, under release 1. Each release has a call of its own, so that no caller can ask
-// for a release that there is not.
+// The fresh board of n nodes and m consoles, under release 1. Each release has a call of its own, so that no caller can
+// ask for a release that there is not.
 #[no_mangle]
 pub extern "C" fn board_fresh(w: &mut [u32], s: &mut [u32], n: u32, m: u32) -> u32
     ensures { λ r. ⌜ Called (fresh (setupOf n m One)) (now (w .entry)) (now (s .entry)) r (now (w .exit)) (now (s .exit)) ⌝ }

@@ -104,7 +104,8 @@ fn run_steps(q: &[u32], s: &mut [u32], b: Board) -> Midway
     x
 }
 
-// Puts the list to the board in w, with the answers into s and the last board back into w. The caller has seen to the lengths.
+// Puts the list to the board in w, with the answers into s and the last board back into w. The caller has seen to the
+// lengths.
 fn run_list(w: &mut [u32], q: &[u32], s: &mut [u32])
     requires { ⌜ (boardWords ≤ length (now w)) × (stepsIn (length (now q)) * answerWords ≤ length (now s)) ⌝ }
     ensures { λ r. ⌜ (now (w .exit) ≡ keptAfter (now (w .entry)) (lastOf (now (w .entry)) (now (q .entry)))) × (now (s .exit) ≡ answersOf (now (w .entry)) (now (q .entry)) (now (s .entry))) ⌝ }

@@ -39,14 +39,14 @@ frame-ack (suc (suc zero)) t v h = absurd (omega arith)
 frame-ack (suc (suc (suc zero))) t v h = absurd (omega arith)
 frame-ack (suc (suc (suc (suc f)))) t v h = refl
 
-pub from-more : {A : Type 0} (from : List ℕ → ℕ → A) (place : ℕ → ℕ) (xs : List A) (k : ℕ) (w : List ℕ) → set (allFrom from place xs k w) k (from w (place k)) ≡ allFrom from place xs (k + 1) w
+pub from-more : {A : Type 0} (from : List ℕ → ℕ → A) (offset : ℕ → ℕ) (xs : List A) (k : ℕ) (w : List ℕ) → set (allFrom from offset xs k w) k (from w (offset k)) ≡ allFrom from offset xs (k + 1) w
 unfolding allFrom
-from-more from place xs k w = rw add-one
+from-more from offset xs k w = rw add-one
 
-pub put-more : {A : Type 0} (fields : A → List ℕ) (place : ℕ → ℕ) (d : A) (xs : List A) (k : ℕ) (w : List ℕ)
-    → sets (putAll fields place d xs k w) (place k) (fields (getD xs k d)) ≡ putAll fields place d xs (k + 1) w
+pub put-more : {A : Type 0} (fields : A → List ℕ) (offset : ℕ → ℕ) (d : A) (xs : List A) (k : ℕ) (w : List ℕ)
+    → sets (putAll fields offset d xs k w) (offset k) (fields (getD xs k d)) ≡ putAll fields offset d xs (k + 1) w
 unfolding putAll
-put-more fields place d xs k w = rw add-one
+put-more fields offset d xs k w = rw add-one
 
 pub bytes-more : (xs : List Console) (k : ℕ) → Bytes xs k → Byte (getD xs k idleConsole) → Bytes xs (k + 1)
 bytes-more xs k h last c l = go (eqb c k) refl

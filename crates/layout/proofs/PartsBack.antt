@@ -1,5 +1,5 @@
--- A node, a console and a cell each: what is written is read again and stands for a part; and what stands for one is what that part
--- is written as.
+-- A node, a console and a cell each: what is written is read again and stands for a part; and what stands for one is
+-- what that part is written as.
 use Prim.Native.Nat.{ℕ, zero, suc, _+_, _%_, _<_}
 use mathlib.Core.Bool.{Bool, true, false, not, _&&_, _||_}
 use mathlib.Core.List.{List}

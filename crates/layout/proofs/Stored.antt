@@ -1,4 +1,5 @@
--- Parts of any width stored in words at places that do not overlap, and read again: the argument that nodes, consoles and cells share.
+-- Parts of any width stored in words at offsets that do not overlap, and read again: the argument that nodes, consoles
+-- and cells share.
 use Prim.Native.Nat.{ℕ, zero, suc, _+_, _≤_, _<_}
 use mathlib.Core.Bool.{Bool, true, false}
 use mathlib.Core.List.{List, [], _∷_}
@@ -50,28 +51,28 @@ pub record Reads (A B : Type 0) (s : ℕ) (Fits : A → Type 0) (fields : A → 
   pub same : (w : List ℕ) (p : ℕ) (x : A) → p + s ≤ length w → Fits x → from (sets w p (fields x)) p ≡ seen x
   pub alike : (w v : List ℕ) (p : ℕ) → ((i : ℕ) → p ≤ i → i < p + s → word w i ≡ word v i) → from w p ≡ from v p
 
--- at places that do not overlap
-module _ {A : Type 0} {s : ℕ} (fields : A → List ℕ) (wide : (x : A) → length (fields x) ≡ s) (place : ℕ → ℕ) (apart : (k n : ℕ) → k < n → place k + s ≤ place n) (d : A) (xs : List A) where
+-- at offsets that do not overlap
+module _ {A : Type 0} {s : ℕ} (fields : A → List ℕ) (wide : (x : A) → length (fields x) ≡ s) (offset : ℕ → ℕ) (apart : (k n : ℕ) → k < n → offset k + s ≤ offset n) (d : A) (xs : List A) where
   abbrev all : ℕ → List ℕ → List ℕ
-  all n w = putAll fields place d xs n w
+  all n w = putAll fields offset d xs n w
 
-  low : (k : ℕ) → place 0 ≤ place k
+  low : (k : ℕ) → offset 0 ≤ offset k
   low zero = omega arith
   low (suc k) = omega (arith, apart 0 (suc k) (omega arith))
 
   pub all-long : (n : ℕ) (w : List ℕ) → length (all n w) ≡ length w
   unfolding putAll
   all-long zero w = refl
-  all-long (suc n) w = length-sets (all n w) (place n) (fields (getD xs n d)) ∙ all-long n w
+  all-long (suc n) w = length-sets (all n w) (offset n) (fields (getD xs n d)) ∙ all-long n w
 
   -- what stands beside the last part is left alone by it
-  last-beside : (n : ℕ) (w : List ℕ) (i : ℕ) → (i < place n) ⊎ (place n + s ≤ i) → word (all (suc n) w) i ≡ word (all n w) i
+  last-beside : (n : ℕ) (w : List ℕ) (i : ℕ) → (i < offset n) ⊎ (offset n + s ≤ i) → word (all (suc n) w) i ≡ word (all n w) i
   unfolding putAll
-  last-beside n w i (inl l) = stored-beside (fields (getD xs n d)) (all n w) (place n) i (inl l)
-  last-beside n w i (inr l) = stored-beside (fields (getD xs n d)) (all n w) (place n) i (inr (omega (arith, wide (getD xs n d))))
+  last-beside n w i (inl l) = stored-beside (fields (getD xs n d)) (all n w) (offset n) i (inl l)
+  last-beside n w i (inr l) = stored-beside (fields (getD xs n d)) (all n w) (offset n) i (inr (omega (arith, wide (getD xs n d))))
 
   -- what stands before the parts, and beyond them, is left alone
-  pub all-beside : (n : ℕ) (w : List ℕ) (i : ℕ) → (i < place 0) ⊎ (place n ≤ i) → word (all n w) i ≡ word w i
+  pub all-beside : (n : ℕ) (w : List ℕ) (i : ℕ) → (i < offset 0) ⊎ (offset n ≤ i) → word (all n w) i ≡ word w i
   unfolding putAll
   all-beside zero w i o = refl
   all-beside (suc n) w i (inl l) = last-beside n w i (inl (omega (arith, low n))) ∙ all-beside n w i (inl l)
@@ -79,39 +80,39 @@ module _ {A : Type 0} {s : ℕ} (fields : A → List ℕ) (wide : (x : A) → le
 
   -- of each part is read what is seen of it
   pub all-same : {B : Type 0} {Fits : A → Type 0} {seen : A → B} {from : List ℕ → ℕ → B} → Reads A B s Fits fields seen from
-      → (n : ℕ) (w : List ℕ) → place n ≤ length w → ((k : ℕ) → k < n → Fits (getD xs k d)) → (k : ℕ) → k < n → from (all n w) (place k) ≡ seen (getD xs k d)
+      → (n : ℕ) (w : List ℕ) → offset n ≤ length w → ((k : ℕ) → k < n → Fits (getD xs k d)) → (k : ℕ) → k < n → from (all n w) (offset k) ≡ seen (getD xs k d)
   unfolding putAll
   all-same reads zero w long fits k l = absurd (omega arith)
   all-same {B} {Fits} {seen} {from} reads (suc n) w long fits k l = go (all-same reads n w (omega (arith, apart n (suc n) (omega arith))) (λ k l. fits k (omega arith)) k) (eqb k n) refl
     where
-      go : (k < n → from (all n w) (place k) ≡ seen (getD xs k d)) → (x : Bool) → eqb k n ≡ x → from (all (suc n) w) (place k) ≡ seen (getD xs k d)
-      go rest true e = rw (eqb-true k n e) (reads .same (all n w) (place n) (getD xs n d) (omega (arith, all-long n w, apart n (suc n) (omega arith))) (fits n (omega arith)))
+      go : (k < n → from (all n w) (offset k) ≡ seen (getD xs k d)) → (x : Bool) → eqb k n ≡ x → from (all (suc n) w) (offset k) ≡ seen (getD xs k d)
+      go rest true e = rw (eqb-true k n e) (reads .same (all n w) (offset n) (getD xs n d) (omega (arith, all-long n w, apart n (suc n) (omega arith))) (fits n (omega arith)))
       go rest false e =
           let m : k < n = omega (arith, eqb-false k n e) in
-          reads .alike (all (suc n) w) (all n w) (place k) (λ i h l. last-beside n w i (inl (omega (arith, apart k n m)))) ∙ rest m
+          reads .alike (all (suc n) w) (all n w) (offset k) (λ i h l. last-beside n w i (inl (omega (arith, apart k n m)))) ∙ rest m
 
   -- parts that stand there already
-  pub all-again : (n : ℕ) (w : List ℕ) → ((k : ℕ) → k < n → sets w (place k) (fields (getD xs k d)) ≡ w) → all n w ≡ w
+  pub all-again : (n : ℕ) (w : List ℕ) → ((k : ℕ) → k < n → sets w (offset k) (fields (getD xs k d)) ≡ w) → all n w ≡ w
   unfolding putAll
   all-again zero w h = refl
   all-again (suc n) w h = rw (all-again n w (λ k l. h k (omega arith))) (h n (omega arith))
 
 -- a list read part by part, and each of its elements
-module _ {A : Type 0} (from : List ℕ → ℕ → A) (place : ℕ → ℕ) (d : A) (ys : List A) (w : List ℕ) where
-  from-long : (n : ℕ) → length (allFrom from place ys n w) ≡ length ys
+module _ {A : Type 0} (from : List ℕ → ℕ → A) (offset : ℕ → ℕ) (d : A) (ys : List A) (w : List ℕ) where
+  from-long : (n : ℕ) → length (allFrom from offset ys n w) ≡ length ys
   unfolding allFrom
   from-long zero = refl
-  from-long (suc n) = length-set (allFrom from place ys n w) n (from w (place n)) ∙ from-long n
+  from-long (suc n) = length-set (allFrom from offset ys n w) n (from w (offset n)) ∙ from-long n
 
-  pub from-at : (n : ℕ) → n ≤ length ys → (k : ℕ) → k < n → getD (allFrom from place ys n w) k d ≡ from w (place k)
+  pub from-at : (n : ℕ) → n ≤ length ys → (k : ℕ) → k < n → getD (allFrom from offset ys n w) k d ≡ from w (offset k)
   unfolding allFrom
   from-at zero h k l = absurd (omega arith)
   from-at (suc n) h k l = go (from-at n (omega arith) k) (eqb k n) refl
     where
-      go : (k < n → getD (allFrom from place ys n w) k d ≡ from w (place k)) → (x : Bool) → eqb k n ≡ x → getD (set (allFrom from place ys n w) n (from w (place n))) k d ≡ from w (place k)
-      go rest true e = rw (eqb-true k n e) (getD-set-same (allFrom from place ys n w) n (from w (place n)) d (omega (arith, from-long n)))
-      go rest false e = getD-set-other (allFrom from place ys n w) n k (from w (place n)) d (eqb-false k n e) ∙ rest (omega (arith, eqb-false k n e))
+      go : (k < n → getD (allFrom from offset ys n w) k d ≡ from w (offset k)) → (x : Bool) → eqb k n ≡ x → getD (set (allFrom from offset ys n w) n (from w (offset n))) k d ≡ from w (offset k)
+      go rest true e = rw (eqb-true k n e) (getD-set-same (allFrom from offset ys n w) n (from w (offset n)) d (omega (arith, from-long n)))
+      go rest false e = getD-set-other (allFrom from offset ys n w) n k (from w (offset n)) d (eqb-false k n e) ∙ rest (omega (arith, eqb-false k n e))
 
   -- a list of n elements that is read part by part as xs is xs
-  pub from-all : (xs : List A) (n : ℕ) → length ys ≡ n → length xs ≡ n → ((k : ℕ) → k < n → from w (place k) ≡ getD xs k d) → allFrom from place ys n w ≡ xs
-  from-all xs n ly lx h = ext-getD d (allFrom from place ys n w) xs (from-long n ∙ ly ∙ sym lx) (λ i l. from-at n (omega arith) i (omega (arith, from-long n)) ∙ h i (omega (arith, from-long n)))
+  pub from-all : (xs : List A) (n : ℕ) → length ys ≡ n → length xs ≡ n → ((k : ℕ) → k < n → from w (offset k) ≡ getD xs k d) → allFrom from offset ys n w ≡ xs
+  from-all xs n ly lx h = ext-getD d (allFrom from offset ys n w) xs (from-long n ∙ ly ∙ sym lx) (λ i l. from-at n (omega arith) i (omega (arith, from-long n)) ∙ h i (omega (arith, from-long n)))

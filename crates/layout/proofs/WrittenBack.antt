@@ -1,4 +1,5 @@
--- Words that stand for a board are those that it is written as: writing a part over itself changes nothing (PartsBack, Stored).
+-- Words that stand for a board are those that it is written as: writing a part over itself changes nothing (PartsBack,
+-- Stored).
 use Prim.Native.Nat.{ℕ, zero, suc, _+_, _<_}
 use mathlib.Core.Bool.{true}
 use mathlib.Core.List.{List}

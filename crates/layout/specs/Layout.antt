@@ -1,5 +1,5 @@
--- A board in words of 32 bits: n, m and the release, then so many words for each node, console and cell; how it is read from them,
--- and how it is written into them.
+-- A board in words of 32 bits: n, m and the release, then so many words for each node, console and cell; how it is read
+-- from them, and how it is written into them.
 use Prim.Native.Nat.{ℕ, zero, suc, _+_, _*_, _%_, _<_}
 use mathlib.Core.Bool.{cond, not}
 use mathlib.Core.List.{List, [], _∷_}
@@ -49,11 +49,11 @@ consoleOffset c = nodeOffset maxNodes + c * consoleWords
 abbrev pub cellOffset : ℕ → ℕ
 cellOffset i = consoleOffset maxConsoles + i * cellWords
 
--- the words of a board: the place past the last cell
+-- the words of a board: the offset past the last cell
 abbrev pub boardWords : ℕ
 boardWords = cellOffset maxCells
 
--- the word at place i
+-- the word at offset i
 abbrev pub word : List ℕ → ℕ → ℕ
 word w i = getD w i 0
 
@@ -96,10 +96,10 @@ frameOf (suc (suc (suc (suc s)))) t v = Ack
 unfoldable pub cellFrom : List ℕ → ℕ → Cell
 cellFrom w p = cellOf (frameOf (word w p) (tagOf (word w (p + 1)) (word w (p + 2))) (word w (p + 3)))
 
--- the first k of many parts, each from its place
+-- the first k of many parts, each from its offset
 unfoldable pub allFrom : {A : Type 0} → (List ℕ → ℕ → A) → (ℕ → ℕ) → List A → ℕ → List ℕ → List A
-allFrom from place xs zero w = xs
-allFrom from place xs (suc k) w = set (allFrom from place xs k w) k (from w (place k))
+allFrom from offset xs zero w = xs
+allFrom from offset xs (suc k) w = set (allFrom from offset xs k w) k (from w (offset k))
 
 -- the board that the words are read as, whatever stands there
 unfoldable pub boardIn : List ℕ → Board
@@ -111,7 +111,7 @@ boardIn w =
       cells = allFrom cellFrom cellOffset (replicate maxCells (cellOf Nothing)) maxCells w;
     }
 
--- ---- writing: the fields of each part, and all of them in their places
+-- ---- writing: the fields of each part, and all of them at their offsets
 
 unfoldable pub releaseNumber : Release → ℕ
 releaseNumber One = 1
@@ -160,10 +160,10 @@ frameValue Ack = 0
 unfoldable pub cellFields : Cell → List ℕ
 cellFields x = frameNumber (x .frame) ∷ frameTag (x .frame) .ts ∷ frameTag (x .frame) .console ∷ frameValue (x .frame) ∷ []
 
--- the first k of many parts, the fields of each at its place
+-- the first k of many parts, the fields of each at its offset
 unfoldable pub putAll : {A : Type 0} → (A → List ℕ) → (ℕ → ℕ) → A → List A → ℕ → List ℕ → List ℕ
-putAll fields place d xs zero w = w
-putAll fields place d xs (suc k) w = sets (putAll fields place d xs k w) (place k) (fields (getD xs k d))
+putAll fields offset d xs zero w = w
+putAll fields offset d xs (suc k) w = sets (putAll fields offset d xs k w) (offset k) (fields (getD xs k d))
 
 abbrev pub putNodes : List Node → ℕ → List ℕ → List ℕ
 putNodes = putAll nodeFields nodeOffset freshNode

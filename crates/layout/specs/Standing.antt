@@ -1,5 +1,5 @@
--- Which words stand for a board, and the board that any words are read as. A flipped bit must not pass for another state: words that no
--- board is written as are read as a board that is not well formed, so that every step but fresh refuses them with 1.
+-- Which words stand for a board, and the board that any words are read as: words that no board is written as are read
+-- as one that is not well formed, so that every step but fresh refuses them with 1. No number is read as its nearest.
 use Prim.Native.Nat.{ℕ, _+_}
 use mathlib.Core.Bool.{Bool, cond, _&&_, _||_}
 use mathlib.Core.List.{List}

@@ -7,8 +7,8 @@ pub mod reading;
 mod standing;
 pub mod writing;
 
-// A board is n, m and its release, then its nodes, its consoles and its cells, each kind from a place on and in so many words
-// each.
+// A board is n, m and its release, then its nodes, its consoles and its cells, each kind from an offset on and in so
+// many words each.
 const SETUP_WORDS: usize = 3;
 
 const NODE_WORDS: usize = 4;

@@ -1,4 +1,5 @@
-// Reading a board from words. The private functions read any number as something; decode refuses what stands for no board.
+// Reading a board from words. The private functions read any number as something; decode refuses what stands for no
+// board.
 ghost use mathlib.Core.Path.{_≡_};
 ghost use Prim.Native.Nat.{_+_, _≤_};
 ghost use lib.ListN.{length, replicate};
@@ -174,7 +175,8 @@ fn board_from(w: &[u32]) -> Board
     }
 }
 
-// The board in the first words. Words that stand for no board, too few of them too, are read as one that is not well formed.
+// The board in the first words. Words that stand for no board, too few of them too, are read as one that is not well
+// formed.
 pub fn decode(w: &[u32]) -> Board
     ensures { λ r. ⌜ r ≡ decoded (now (w .entry)) ⌝ }
 {

@@ -1,5 +1,5 @@
-// Which words stand for a board: those that some board is written as. The private functions below that read words are called
-// where the words reach far enough. They test without branches, which is faster here than to stop at the first no.
+// Which words stand for a board: those that some board is written as. The private functions below that read words are
+// called where the words reach far enough.
 ghost use mathlib.Core.Path.{_≡_};
 ghost use Prim.Native.Nat.{_+_, _≤_};
 ghost use lib.ListN.{length};

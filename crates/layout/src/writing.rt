@@ -40,8 +40,8 @@ fn release_number(release: Release) -> u32
     }
 }
 
-// Writes the fields into the words from p on. Words that do not reach so far are left as they are. Nothing is added to p before
-// that is known, since the sum may be too large for a usize.
+// Writes the fields into the words from p on. Words that do not reach so far are left as they are. Nothing is added to
+// p before that is known, since the sum may be too large for a usize.
 pub fn put_words(w: &mut [u32], p: usize, fields: &[u32])
     ensures { λ r. ⌜ (p + length (now (fields .entry)) ≤ length (now (w .entry)) → now (w .exit) ≡ sets (now (w .entry)) p (now (fields .entry))) × (length (now (w .entry)) < p + length (now (fields .entry)) → now (w .exit) ≡ now (w .entry)) ⌝ }
 {
@@ -226,7 +226,8 @@ fn put_board(w: &mut [u32], b: Board)
     put_cells(w, cells);
 }
 
-// Writes the board into the first words, from which it can be read back. Words too few for a board are left as they are.
+// Writes the board into the first words, from which it can be read back. Words too few for a board are left as they
+// are.
 pub fn encode(w: &mut [u32], b: Board)
     ensures { λ r. ⌜ (boardWords ≤ length (now (w .entry)) → (now (w .exit) ≡ encoded (now (w .entry)) b) × (decoded (now (w .exit)) ≡ b)) × (length (now (w .entry)) < boardWords → now (w .exit) ≡ now (w .entry)) ⌝ }
 {

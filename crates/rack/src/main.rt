@@ -6,16 +6,17 @@ ghost use lib.ListN.{length};
 use csv::splitting::HELD_BYTES;
 use libc::STDIN_FILENO;
 use libc::STDOUT_FILENO;
-use schedule::Progress;
+use schedule::Position;
 use schedule::chunks::CHUNK_BYTES;
 use schedule::chunks::OUT_BYTES;
 use schedule::chunks::run_chunk;
 use schedule::chunks::run_end;
 use schedule::chunks::start;
 
-// A run, whether there may be more input, and whether all reads and writes went well so far.
-struct Reading {
-    progress: Progress,
+// A turn of reading: where the run stands after it, whether there may be more input, and whether all reads and writes
+// went well so far.
+struct Turn {
+    position: Position,
     goes_on: bool,
     is_well: bool,
 }
@@ -31,34 +32,30 @@ fn write_first(out: &[u8], n: usize) -> bool
     is_written
 }
 
-fn over(progress: Progress, is_well: bool) -> Reading {
-    Reading {
-        progress: progress,
+fn over(position: Position, is_well: bool) -> Turn {
+    Turn {
+        position: position,
         goes_on: false,
         is_well: is_well,
     }
 }
 
 // Reads once, and answers what came.
-fn read_some(
-    progress: Progress,
-    line: &mut [u8; HELD_BYTES],
-    out: &mut [u8; OUT_BYTES],
-) -> Reading {
+fn read_some(position: Position, line: &mut [u8; HELD_BYTES], out: &mut [u8; OUT_BYTES]) -> Turn {
     let mut chunk = [0u8; CHUNK_BYTES];
     let got = libc::read(STDIN_FILENO, &mut chunk);
     if got < 0 {
         os::fail(b"rack: the input cannot be read");
-        return over(progress, false);
+        return over(position, false);
     }
     if got == 0 {
-        return over(progress, true);
+        return over(position, true);
     }
     let n = io::count(got, &chunk);
-    let next = run_chunk(progress, line, &chunk, n, out);
+    let next = run_chunk(position, line, &chunk, n, out);
     let is_written = write_first(out, next.wrote);
-    Reading {
-        progress: next,
+    Turn {
+        position: next,
         goes_on: is_written,
         is_well: is_written,
     }
@@ -66,10 +63,10 @@ fn read_some(
 
 // A proved loop has to end, and nothing says that an input does: so this one counts its turns down, from a number that no run uses
 // up.
-fn read_all(line: &mut [u8; HELD_BYTES], out: &mut [u8; OUT_BYTES]) -> Reading {
-    let progress = start();
-    let mut c = Reading {
-        progress: progress,
+fn read_all(line: &mut [u8; HELD_BYTES], out: &mut [u8; OUT_BYTES]) -> Turn {
+    let position = start();
+    let mut c = Turn {
+        position: position,
         goes_on: true,
         is_well: true,
     };
@@ -78,15 +75,15 @@ fn read_all(line: &mut [u8; HELD_BYTES], out: &mut [u8; OUT_BYTES]) -> Reading {
         if !c.goes_on {
             return c;
         }
-        c = read_some(c.progress, line, out);
+        c = read_some(c.position, line, out);
         turns -= 1;
     }
     c
 }
 
 // Answers the last line, if no LF ends it.
-fn finish(progress: Progress, line: &[u8; HELD_BYTES], out: &mut [u8; OUT_BYTES]) {
-    let n = run_end(progress, line, out);
+fn finish(position: Position, line: &[u8; HELD_BYTES], out: &mut [u8; OUT_BYTES]) {
+    let n = run_end(position, line, out);
     write_first(out, n);
 }
 
@@ -95,6 +92,6 @@ fn main() {
     let mut out = [0u8; OUT_BYTES];
     let c = read_all(&mut line, &mut out);
     if c.is_well {
-        finish(c.progress, &line, &mut out);
+        finish(c.position, &line, &mut out);
     }
 }

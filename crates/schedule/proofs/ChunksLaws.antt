@@ -17,7 +17,7 @@ use Rattle.bytes.specs.Bytes.{indexOf, indexAfter, slice}
 use Rattle.csv.specs.Reading.{lfByte}
 use Rattle.csv.specs.Splitting.{chop, heldBytes}
 use Rattle.csv.proofs.SetsLaws.{sets-sets}
-use Rattle.schedule.specs.declared.Progress.{Progress}
+use Rattle.schedule.specs.declared.Position.{Position}
 use Rattle.schedule.specs.Schedule.{effectOf, nextNumber}
 use Rattle.schedule.specs.Chunks.{Session, afterByte, textAt, afterBytes, textOf, textAtEnd, lastText, sessionOf, part, Consumed}
 use Rattle.schedule.proofs.Whole.{take-again, byte-after, byte-text, lf-after, lf-text, after-append, text-append}
@@ -140,9 +140,9 @@ module _ (s : Session) (chunk : List ℕ) (i j : ℕ) (le : i ≤ j) where
   length-join = sym (length-append (take i chunk) (part i j chunk)) ∙ ap length parts-join
 
 -- the bytes up to i taken, and then those up to j
-pub taken-more : (s : Progress) (line out chunk : List ℕ) (i j : ℕ) → i ≤ j → (x y : Progress) (line' out' line'' out'' : List ℕ)
+pub consumed-more : (s : Position) (line out chunk : List ℕ) (i j : ℕ) → i ≤ j → (x y : Position) (line' out' line'' out'' : List ℕ)
     → Consumed 0 0 s line out (take i chunk) x line' out' → Consumed (x .consumed) (x .wrote) x line' out' (part i j chunk) y line'' out'' → Consumed 0 0 s line out (take j chunk) y line'' out''
-taken-more s line out chunk i j le x y line' out' line'' out'' t u =
+consumed-more s line out chunk i j le x y line' out' line'' out'' t u =
     let first : List ℕ = textOf (sessionOf s line) (take i chunk) in
     let then : List ℕ = textOf (sessionOf x line') (part i j chunk) in
     let both = text-more (sessionOf s line) chunk i j le (sessionOf x line') (t .session) in
@@ -156,9 +156,9 @@ taken-more s line out chunk i j le x y line' out' line'' out'' t u =
       room = u .room;
     }
 
--- by another name for the progress and for the bytes
-pub taken-as : (s t : Progress) (line out c d : List ℕ) (r : Progress) (line' out' : List ℕ) → sessionOf t line ≡ sessionOf s line → c ≡ d → Consumed 0 0 t line out c r line' out' → Consumed 0 0 s line out d r line' out'
-taken-as s t line out c d r line' out' e f u =
+-- by another name for the position and for the bytes
+pub consumed-as : (s t : Position) (line out c d : List ℕ) (r : Position) (line' out' : List ℕ) → sessionOf t line ≡ sessionOf s line → c ≡ d → Consumed 0 0 t line out c r line' out' → Consumed 0 0 s line out d r line' out'
+consumed-as s t line out c d r line' out' e f u =
     let text = ap (λ (z : Session). textOf z c) e ∙ ap (textOf (sessionOf s line)) f in
     let stands = ap (λ (z : Session). afterBytes z c) e ∙ ap (afterBytes (sessionOf s line)) f in
     record {

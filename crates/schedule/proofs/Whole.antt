@@ -148,7 +148,7 @@ pub whole : (cs : List (List ℕ)) → printed atStart cs ≡ scheduleText (inpu
 unfolding scheduleText
 whole cs = in-turn atStart cs ∙ good (inputOf cs) [] (atStart .board) (atStart .number)
 
--- The code's first progress is at the start, whatever the lent line holds.
+-- The code's first position is at the start, whatever the lent line holds.
 pub starts : (line : List ℕ) → sessionOf started line ≡ atStart
 unfolding started
 starts line = refl

@@ -12,7 +12,7 @@ use Rattle.board.specs.Boards.{freshBoard}
 use Rattle.board.specs.Steps.{smallest}
 use Rattle.csv.specs.Reading.{lfByte}
 use Rattle.csv.specs.Splitting.{chop, heldBytes}
-use Rattle.schedule.specs.declared.Progress.{Progress}
+use Rattle.schedule.specs.declared.Position.{Position}
 use Rattle.schedule.specs.Schedule.{Effect, effectOf, firstNumber, nextNumber}
 
 -- the line so far, as much of it as is held; the board, and the number of the line
@@ -71,22 +71,22 @@ unfoldable pub inputOf : List (List ℕ) → List ℕ
 inputOf [] = []
 inputOf (c ∷ cs) = c ++ inputOf cs
 
--- the session that stands in a progress and its lent line
-abbrev pub sessionOf : Progress → List ℕ → Session
+-- the session that stands in a position and its lent line
+abbrev pub sessionOf : Position → List ℕ → Session
 sessionOf r line = record { held = take (r .held) line; board = r .board; number = r .number }
 
--- a progress before the first byte
-unfoldable pub started : Progress
+-- a position before the first byte
+unfoldable pub started : Position
 started = record { board = atStart .board; number = atStart .number; held = 0; consumed = 0; wrote = 0 }
 
 -- the bytes of a chunk from place i up to place j
 abbrev pub part : ℕ → ℕ → List ℕ → List ℕ
 part i j chunk = take (j - i) (drop i chunk)
 
--- the run s has consumed these bytes, from place t of the chunk on: where it stands after them as r, how many bytes are consumed and held, and what
--- it has written into the output from place p on. The line that holds what is held was line, and is line'; what stands there beyond it is
--- left open. The output was out, and is out'
-pub record Consumed (t p : ℕ) (s : Progress) (line out bytes : List ℕ) (r : Progress) (line' out' : List ℕ) : Type 0 where
+-- the run s has consumed these bytes, from place t of the chunk on: where it stands after them as r, how many bytes are
+-- consumed and held, and what it has written into the output from place p on. The line that holds what is held was
+-- line, and is line'; what stands there beyond it is left open. The output was out, and is out'
+pub record Consumed (t p : ℕ) (s : Position) (line out bytes : List ℕ) (r : Position) (line' out' : List ℕ) : Type 0 where
   pub session : sessionOf r line' ≡ afterBytes (sessionOf s line) bytes
   pub held : r .held ≡ length (afterBytes (sessionOf s line) bytes .held)
   pub consumed : r .consumed ≡ t + length bytes

@@ -7,7 +7,7 @@ ghost use Rattle.board.specs.WellFormed.{wellFormed};
 ghost use Rattle.csv.specs.Splitting.{heldBytes};
 ghost use Rattle.csv.specs.Writing.{lineBytes};
 ghost use Rattle.schedule.specs.Chunks.{started, sessionOf, part, lastText, Consumed};
-use crate::Progress;
+use crate::Position;
 use crate::effects::next_number;
 use crate::effects::run_line;
 use board::Board;
@@ -20,7 +20,7 @@ use csv::splitting::least;
 
 // Takes the next line of the chunk, or what there is of it. The caller has seen that there is a byte left, that the line held has
 // its HELD_BYTES, and that an output line has room, and knows whether the board is well formed.
-fn take_line(s: Progress, formed: bool, line: &mut [u8], chunk: &[u8], out: &mut [u8]) -> Progress
+fn take_line(s: Position, formed: bool, line: &mut [u8], chunk: &[u8], out: &mut [u8]) -> Position
     requires { ⌜ (s .consumed < length (now chunk)) × (length (now line) ≡ heldBytes) × (s .held ≤ heldBytes) × (s .wrote + lineBytes ≤ length (now out)) ⌝ }
     requires { ⌜ formed ≡ wellFormed (s .board) ⌝ }
     ensures { λ r. ⌜ (s .consumed < r .consumed) × (r .consumed ≤ length (now (chunk .entry))) × (r .held ≤ heldBytes) × (r .wrote ≤ s .wrote + lineBytes) ⌝ }
@@ -31,7 +31,7 @@ fn take_line(s: Progress, formed: bool, line: &mut [u8], chunk: &[u8], out: &mut
     let held = hold(line, s.held, &chunk[at..e]);
     if e == chunk.len() {
         let b = s.board;
-        return Progress {
+        return Position {
             board: b,
             number: s.number,
             held: held,
@@ -42,7 +42,7 @@ fn take_line(s: Progress, formed: bool, line: &mut [u8], chunk: &[u8], out: &mut
     let k = chopped(line, held);
     let ran = run_line(s.board, formed, s.number, &line[..k], out, s.wrote);
     let b = ran.board;
-    Progress {
+    Position {
         board: b,
         number: next_number(s.number),
         held: 0,
@@ -51,15 +51,15 @@ fn take_line(s: Progress, formed: bool, line: &mut [u8], chunk: &[u8], out: &mut
     }
 }
 
-// Takes the whole chunk. The caller has seen that the line held has its HELD_BYTES, and that the output has room for a line at every
-// byte. Question 1 is asked once: a well-formed board stays so. While it is not, question 1 is asked after each line, since a fresh may have
-// made another board.
-fn take_all(s: Progress, line: &mut [u8], chunk: &[u8], out: &mut [u8]) -> Progress
+// Takes the whole chunk. The caller has seen that the line held has its HELD_BYTES, and that the output has room for a
+// line at every byte. Question 1 is asked once: a well-formed board stays so. While it is not, question 1 is asked
+// after each line, since a fresh may have made another board.
+fn take_all(s: Position, line: &mut [u8], chunk: &[u8], out: &mut [u8]) -> Position
     requires { ⌜ (length (now line) ≡ heldBytes) × (s .held ≤ heldBytes) × (length (now chunk) * lineBytes ≤ length (now out)) ⌝ }
     ensures { λ r. ⌜ Consumed 0 0 s (now (line .entry)) (now (out .entry)) (now (chunk .entry)) r (now (line .exit)) (now (out .exit)) ⌝ }
 {
     let b = s.board;
-    let mut r = Progress {
+    let mut r = Position {
         board: b,
         number: s.number,
         held: s.held,
@@ -78,7 +78,7 @@ fn take_all(s: Progress, line: &mut [u8], chunk: &[u8], out: &mut [u8]) -> Progr
 }
 
 // Takes the first n bytes of the chunk, all if there are fewer. The caller has seen to the lengths as for take_all.
-fn take_first(s: Progress, line: &mut [u8], chunk: &[u8], n: usize, out: &mut [u8]) -> Progress
+fn take_first(s: Position, line: &mut [u8], chunk: &[u8], n: usize, out: &mut [u8]) -> Position
     requires { ⌜ (length (now line) ≡ heldBytes) × (length (now chunk) * lineBytes ≤ length (now out)) ⌝ }
     ensures { λ r. ⌜ Consumed 0 0 s (now (line .entry)) (now (out .entry)) (take n (now (chunk .entry))) r (now (line .exit)) (now (out .exit)) ⌝ }
 {
@@ -89,7 +89,7 @@ fn take_first(s: Progress, line: &mut [u8], chunk: &[u8], n: usize, out: &mut [u
 }
 
 // The end of the input: what is held is its last line, if it is not empty. The caller has seen that an output line has room.
-fn take_last(s: Progress, line: &[u8], out: &mut [u8]) -> usize
+fn take_last(s: Position, line: &[u8], out: &mut [u8]) -> usize
     requires { ⌜ lineBytes ≤ length (now out) ⌝ }
     ensures { λ r. ⌜ (r ≤ length (now (out .exit))) × (r ≡ length (lastText (sessionOf s (now (line .entry))))) × (now (out .exit) ≡ sets (now (out .entry)) 0 (lastText (sessionOf s (now (line .entry))))) ⌝ }
 {
@@ -109,12 +109,12 @@ fn take_last(s: Progress, line: &[u8], out: &mut [u8]) -> usize
 }
 
 // A run before its first byte: a board of one node and one console.
-pub fn start() -> Progress
+pub fn start() -> Position
     ensures { λ r. ⌜ r ≡ started ⌝ }
 {
     let a = Board::fresh(1, 1);
     let b = a.board;
-    Progress {
+    Position {
         board: b,
         number: 1,
         held: 0,
@@ -130,19 +130,19 @@ pub const OUT_BYTES: usize = CHUNK_BYTES * LINE_BYTES;
 
 // Puts the first n bytes of the chunk to the run, and what they come to at the start of the output.
 pub fn run_chunk(
-    s: Progress,
+    s: Position,
     line: &mut [u8; HELD_BYTES],
     chunk: &[u8; CHUNK_BYTES],
     n: usize,
     out: &mut [u8; OUT_BYTES],
-) -> Progress
+) -> Position
     ensures { λ r. ⌜ Consumed 0 0 s (now (line .entry)) (now (out .entry)) (take n (now (chunk .entry))) r (now (line .exit)) (now (out .exit)) ⌝ }
 {
     take_first(s, line, chunk, n, out)
 }
 
 // Ends the input: puts what its last line comes to at the start of the output, and answers how many bytes that is.
-pub fn run_end(s: Progress, line: &[u8; HELD_BYTES], out: &mut [u8; OUT_BYTES]) -> usize
+pub fn run_end(s: Position, line: &[u8; HELD_BYTES], out: &mut [u8; OUT_BYTES]) -> usize
     ensures { λ r. ⌜ (r ≤ length (now (out .exit))) × (r ≡ length (lastText (sessionOf s (now (line .entry))))) × (now (out .exit) ≡ sets (now (out .entry)) 0 (lastText (sessionOf s (now (line .entry))))) ⌝ }
 {
     take_last(s, line, out)

@@ -95,7 +95,7 @@ fn about(word: usize) -> (Option<u32>, Option<u32>) {
     } else if word < CELLS {
         (Some(((word - CONSOLES) / CONSOLE) as u32), None)
     } else {
-        let place = ((word - CELLS) / CELL) as u32;
-        (Some(place / 5), Some(place % 5))
+        let index = ((word - CELLS) / CELL) as u32;
+        (Some(index / 5), Some(index % 5))
     }
 }

@@ -1,4 +1,5 @@
--- Invariant: what is still to be written, the fields from i on, makes the whole if it is put at next. One field more is fields-put.
+-- Invariant: what is still to be written, the fields from i on, makes the whole if it is put at next. One field more is
+-- fields-put.
 use mathlib.Core.List.{List}
 use mathlib.Core.Path.{_≡_, refl, sym, ap, _∙_}
 use Prim.Native.Nat.{ℕ, _+_, _*_, _-_, _<_, _≤_}

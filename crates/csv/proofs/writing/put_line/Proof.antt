@@ -1,5 +1,5 @@
--- Without room nothing is written, and with room the line is put_numbers'. That the array of fields has its length is told by
--- `.good`.
+-- Without room nothing is written, and with room the line is put_numbers'. That the array of fields has its length is
+-- told by `.good`.
 use mathlib.Core.Path.{_≡_, refl, sym, _∙_}
 use lib.ListN.{length, length-map}
 use native.Mathlib.Omega.{arith}

@@ -1,5 +1,5 @@
--- The number, its fields and the LF make the line (line-writes). There is room for each: the number is short (number-short), and
--- put_fields tells how far it writes.
+-- The number, its fields and the LF make the line (line-writes). There is room for each: the number is short
+-- (number-short), and put_fields tells how far it writes.
 use mathlib.Core.Path.{_∙_}
 use native.Mathlib.Omega.{arith}
 use Rattle.csv.proofs.WritingLaws.{number-short, line-length, line-writes}

@@ -1,4 +1,5 @@
--- Each part is the definition's, written over what the parts before left; that it can be read back is the law `written`.
+-- Each part is the definition's, written over what the parts before left; that it can be read back is the law
+-- `written`.
 use borrow.Author.Needs.{needs}
 use Rattle.layout.specs.Layout.{encoded}
 use Rattle.layout.proofs.RoundTrip.{written}

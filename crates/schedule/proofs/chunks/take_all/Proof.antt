@@ -1,5 +1,5 @@
 -- Invariant: the run stands where the bytes taken so far leave it, what they come to is written, and formed says whether the board is well
--- formed. One line more is what take_line says of it (taken-more), and a well-formed board stays so (still-formed).
+-- formed. One line more is what take_line says of it (consumed-more), and a well-formed board stays so (still-formed).
 use Prim.Native.Nat.{ℕ, _*_, _-_, _≤_}
 use mathlib.Core.List.{List}
 use mathlib.Core.Path.{_≡_, refl, ap, _∙_}
@@ -11,7 +11,7 @@ use Rattle.csv.specs.Writing.{lineBytes}
 use Rattle.csv.specs.Splitting.{heldBytes}
 use Rattle.schedule.specs.Chunks.{afterBytes, textOf, Consumed}
 use Rattle.schedule.proofs.ScheduleLaws.{still-formed}
-use Rattle.schedule.proofs.ChunksLaws.{taken-more, taken-as}
+use Rattle.schedule.proofs.ChunksLaws.{consumed-more, consumed-as}
 use borrow.Author.Needs.{needs}
 use Rattle.schedule.proofs.chunks.take_all.Statement.{statement}
 use Rattle.schedule.proofs.chunks.take_all.Tie as tie
@@ -67,7 +67,7 @@ loop-again c =
       search needs,
       omega arith,
       c .is-well-formed2 .ensures,
-      taken-more _ _ _ _ _ _ le _ _ _ _ _ _ (turn .loop .inv .6) (taken .take-line .ensures .1),
+      consumed-more _ _ _ _ _ _ le _ _ _ _ _ _ (turn .loop .inv .6) (taken .take-line .ensures .1),
     )
 
 loop-less-2 : tie.Need-loop-less-2 Inv-loop μ-loop
@@ -84,7 +84,7 @@ loop-again-2 c =
       search needs,
       omega arith,
       still-formed _ _ _ _ (turn .loop .inv .5) (c .if2 .left) (taken .take-line .ensures .1 .session),
-      taken-more _ _ _ _ _ _ le _ _ _ _ _ _ (turn .loop .inv .6) (taken .take-line .ensures .1),
+      consumed-more _ _ _ _ _ _ le _ _ _ _ _ _ (turn .loop .inv .6) (taken .take-line .ensures .1),
     )
 
 same-length : tie.Need-same-length Inv-loop μ-loop
@@ -99,7 +99,7 @@ returns c =
     let chunk : List ℕ = over .before .before .before .before .before .before .args .chunk .now in
     let n : over .loop .r .consumed ≡ length chunk = omega arith in
     let all : take (over .loop .r .consumed) chunk ≡ chunk = ap (λ (k : ℕ). take k chunk) n ∙ take-length chunk in
-    taken-as _ _ _ _ _ _ _ _ _ refl all (over .loop .inv .6)
+    consumed-as _ _ _ _ _ _ _ _ _ refl all (over .loop .inv .6)
 
 pub take-all-spec : {M : Type 1} → statement M
 take-all-spec =

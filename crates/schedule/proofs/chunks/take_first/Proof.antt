@@ -6,7 +6,7 @@ use native.Mathlib.Omega.{arith}
 use lib.ListN.{take, length-take}
 use lib.Seq.{length-take-le}
 use Rattle.csv.proofs.SplittingLaws.{take-least}
-use Rattle.schedule.proofs.ChunksLaws.{taken-as}
+use Rattle.schedule.proofs.ChunksLaws.{consumed-as}
 use borrow.Author.Needs.{needs}
 use Rattle.schedule.proofs.chunks.take_first.Statement.{statement}
 use Rattle.schedule.proofs.chunks.take_first.Tie as tie
@@ -42,7 +42,7 @@ returns c =
     let chunk : take (cut .least .result) (args .chunk .now) ≡ take (args .n) (args .chunk .now) = take-least (args .chunk .now) (args .n) (cut .least .result) (cut .least .ensures) in
     let held : take (capped .least2 .result) (args .line .now) ≡ take (args .s .held) (args .line .now) =
     take-least (args .line .now) (args .s .held) (capped .least2 .result) (capped .least2 .ensures ∙ ap (min (args .s .held)) (sym (entry .pre .0))) in
-    taken-as _ _ _ _ _ _ _ _ _ (ap (λ (l : List ℕ). record { held = l; board = args .s .board; number = args .s .number }) held) chunk (taken .take-all .ensures)
+    consumed-as _ _ _ _ _ _ _ _ _ (ap (λ (l : List ℕ). record { held = l; board = args .s .board; number = args .s .number }) held) chunk (taken .take-all .ensures)
 
 pub take-first-spec : {M : Type 1} → statement M
 take-first-spec =

@@ -1,5 +1,5 @@
--- The mark is tested of every console; a console below m has its best tag and its state tested; one beyond m is idle and at
--- rest.
+-- The mark is tested of every console; a console below m has its best tag and its state tested; one beyond m is idle
+-- and at rest.
 use borrow.Author.Needs.{needs}
 use borrow.Author.Tests.{lt-ltb, le-ltb}
 use Rattle.parts.proofs.FiniteLaws.{said-no, said-yes}

@@ -1,5 +1,5 @@
-// Reading a board's parts. Beyond the lists there is a fresh node, an idle console or an empty cell. A node number from 5 on may name another pair's
-// cell: question 5 refuses it.
+// Looking at a board's parts. Beyond the lists there is a fresh node, an idle console or an empty cell. A node number
+// from 5 on may name another pair's cell: question 5 refuses it.
 ghost use mathlib.Core.Path.{_≡_};
 ghost use Rattle.board.specs.Boards.{nodeAt, consoleAt, frameAt};
 use crate::Board;
