@@ -36,15 +36,15 @@
  * valid for their lengths, the lent memories must not overlap, and nobody else may touch them during the call.
  *
  * Any words whatever may be lent: if no board is written as they are, or it is not well formed, every step but a fresh
- * is refused with 1, and nothing is written. So a flipped bit is refused unless it makes the words of another well-formed
- * board. The words of a board are
+ * is refused with 1, and nothing is written. So a flipped bit is refused unless it makes the words of another
+ * well-formed board. The words of a board are
  *
  *   0, 1     n and m
  *   2        the release, 1 or 2
  *   3 on     four for each of 5 nodes: up (1; 0 is down), ts, console, value
  *   23 on    seven for each of 8 consoles: state (0 idle, 1 asking to read, 2 asking to write, 3 telling to read, 4
- *            telling to write, 5 down), wanted value, answered set (bit k is node k), best ts, best console, best value,
- *            the mark 'all alike so far' (0 or 1; it is on from the first answer of an asking while every answer has
+ *            telling to write, 5 down), wanted value, answered set (bit k is node k), best ts, best console, best
+ *            value, the mark 'all alike so far' (0 or 1; it is on from the first answer of an asking while every answer has
  *            carried one tag)
  *   79 on    four for each of 40 cells, at console times 5 plus node: frame (0 nothing, 1 ask, 2 reply, 3 put, 4 ack),
  *            ts, console, value; the last three are 0 but for a reply and a put

@@ -251,21 +251,21 @@ impl Board {
         said.chunks_exact(ANSWER_WORDS).map(answer).collect()
     }
 
-    /// The board that these words are. Any words whatever may be given: if no board is written as they are, or it is not
-    /// well formed, every step but a fresh refuses it with 1, and it stays as it is. So a flipped bit is refused unless
-    /// it makes the words of another well-formed board.
+    /// The board that these words are. Any words whatever may be given: if no board is written as they are, or it is
+    /// not well formed, every step but a fresh refuses it with 1, and it stays as it is. So a flipped bit is refused
+    /// unless it makes the words of another well-formed board.
     ///
     /// - words 0, 1 and 2: n, m and the release, 1 or 2
     /// - from 3 on, four for each of 5 nodes: up (1; 0 is down), ts, console, value
-    /// - from 23 on, seven for each of 8 consoles: state (0 idle, 1 asking to read, 2 asking to write, 3 telling to read,
-    ///   4 telling to write, 5 down), wanted value, answered set (bit k is node k), best ts, best console, best value,
-    ///   the mark 'all alike so far' (0 or 1; it is on from the first answer of an asking while every answer has carried
-    ///   one tag)
+    /// - from 23 on, seven for each of 8 consoles: state (0 idle, 1 asking to read, 2 asking to write, 3 telling to
+    ///   read, 4 telling to write, 5 down), wanted value, answered set (bit k is node k), best ts, best console, best
+    ///   value, the mark 'all alike so far' (0 or 1; it is on from the first answer of an asking while every answer has
+    ///   carried one tag)
     /// - from 79 on, four for each of 40 cells, at console times 5 plus node: frame (0 nothing, 1 ask, 2 reply, 3 put,
     ///   4 ack), ts, console, value; the last three are 0 but for a reply and a put
     ///
-    /// Any other number in the place of a release, an up, a state, a mark or a frame, a set above 255, and anything but 0
-    /// beside a frame without a tag make them no board's.
+    /// Any other number in the place of a release, an up, a state, a mark or a frame, a set above 255, and anything but
+    /// 0 beside a frame without a tag make them no board's.
     pub fn from_words(words: [u32; BOARD_WORDS]) -> Board {
         Board { words }
     }

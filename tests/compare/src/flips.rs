@@ -53,7 +53,7 @@ impl Flips {
 
     pub fn print(&self) {
         println!(
-            "every bit flipped, {} flips: {} made another well-formed board, answered as the model does; refused with 1: {} made one that is not well formed, {} words that no board is written as",
+            "every bit flipped, {} flips: {} made another well-formed board, answered as the model does\n  refused with 1: {} made one that is not well formed, {} words that no board is written as",
             self.well_formed + self.ill_formed + self.no_board,
             self.well_formed,
             self.ill_formed,

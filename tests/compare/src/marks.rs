@@ -129,7 +129,7 @@ impl Marks {
             .collect();
         let (wrong, right) = each.split_at(CLAUSES);
         println!(
-            "boards with one mark wrong, or with a number that is none, each refused with 1 by every step, and not with the mark put right: {}",
+            "boards with one mark wrong, or a number that is none, each refused with 1 by every step, and not with it put right\n  {}",
             wrong.join(", ")
         );
         println!(

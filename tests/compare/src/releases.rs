@@ -42,7 +42,7 @@ impl Releases {
 
     pub fn print(&self) {
         println!(
-            "boards with only the release changed, to each of {} numbers: {}; a read turns by 1 and finishes early by 2, every other is refused with 1 and the board kept",
+            "boards with only the release changed, to each of {} numbers: {}\n  a read turns by 1 and finishes early by 2, every other is refused with 1 and the board kept",
             NUMBERS.len(),
             self.tried
         );
