@@ -16,11 +16,7 @@ use Rattle.parts.specs.declared.State.the-variants.{Down}
 use Rattle.parts.specs.declared.Console.{Console}
 use Rattle.parts.specs.Finite.{every}
 use Rattle.parts.specs.Parts.{idleConsole}
-use Rattle.layout.specs.Layout.{boardWords, stateOf, frameOf, allFrom, putAll, Byte, Bytes}
-
--- a board has so many words
-board-words : boardWords ≡ 239
-board-words = refl
+use Rattle.layout.specs.Layout.{stateOf, frameOf, allFrom, putAll, Byte, Bytes}
 
 pub state-down : (s : ℕ) → 5 ≤ s → Down ≡ stateOf s
 unfolding stateOf

@@ -7,3 +7,4 @@ pub mod PartsBack
 pub mod RoundTrip
 pub mod WrittenBack
 pub mod Damaged
+pub mod HeaderHolds

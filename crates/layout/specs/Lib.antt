@@ -2,3 +2,4 @@
 pub mod Layout
 pub mod Standing
 pub mod Claims
+pub mod Header
