@@ -1,4 +1,6 @@
 // The board: one register copied on n nodes, its m consoles, and every frame in flight between them.
+#![tactic(auto)]
+
 pub use decisions::refusals;
 pub use parts::{
     Cell, Compared, Console, ConsoleId, Frame, Kind, Node, NodeId, Outcome, Release, Setup, State,
@@ -7,7 +9,7 @@ pub use parts::{
 
 // Document 01's board. Any value of this type may be handed in: one that is not well formed is refused by question 1.
 // The cell of console c and node k is cells[c * 5 + k].
-#[derive(Drop)]
+#[derive(Clone, Copy)]
 pub struct Board {
     pub setup: Setup,
     pub nodes: [Node; Board::MAX_NODES as usize],
@@ -17,7 +19,7 @@ pub struct Board {
 
 // What a step answers: the outcome, the number of the question that refused it (0: none did), the next board, and how the tag
 // of a reply that it took in compared with the old best.
-#[derive(Drop)]
+#[derive(Clone, Copy)]
 pub struct Answer {
     pub outcome: Outcome,
     pub refusal: u32,

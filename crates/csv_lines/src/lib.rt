@@ -1,5 +1,7 @@
 // Comma-separated lines (document 01, 'Lines that programs read and write'): the lines of an input, a line's fields, a
 // field as a number, a line as three numbers, and a line that is written.
+#![tactic(auto)]
+
 pub mod fields;
 pub mod numbers;
 pub mod reading;
@@ -7,14 +9,14 @@ pub mod splitting;
 pub mod writing;
 
 // A field read as a number of 32 bits.
-#[derive(Drop)]
+#[derive(Clone, Copy)]
 pub enum Num {
     Bad,
     Is(u32),
 }
 
 // A line read as three numbers, for Paper 1's program.
-#[derive(Drop)]
+#[derive(Clone, Copy)]
 pub enum Line {
     TooLong,
     NotThree,
@@ -25,7 +27,7 @@ pub enum Line {
 pub const OUTPUT_SIZE: usize = 5;
 
 // Paper 1: 'Each output line has line number, refusal or 0, outcome, ts, console, value'.
-#[derive(Drop)]
+#[derive(Clone, Copy)]
 pub struct Output {
     pub number: u64,
     pub fields: [u32; OUTPUT_SIZE],

@@ -1,15 +1,17 @@
 // How the steps change a node and a console, and what each step but fresh comes to. These functions are for the board's steps.
+#![tactic(auto)]
+
 use parts::{Compared, Console, Frame, Node, Outcome};
 
 // A reply taken in: the console with it, and how its tag compared with the best tag before it.
-#[derive(Drop)]
+#[derive(Clone, Copy)]
 pub struct TakenIn {
     pub console: Console,
     pub compared: Compared,
 }
 
 // The part that a step changes beside the cells: neither, its console or its node.
-#[derive(Drop)]
+#[derive(Clone, Copy)]
 pub enum Part {
     Neither,
     ConsoleTo(Console),
@@ -18,7 +20,7 @@ pub enum Part {
 
 // What becomes of the cells: they stay, or a frame goes into the cell of the step's console and node, or into all n of its console's. Where a cell
 // empties, that frame is Nothing.
-#[derive(Drop)]
+#[derive(Clone, Copy)]
 pub enum Sent {
     Keep,
     One(Frame),
@@ -26,7 +28,7 @@ pub enum Sent {
 }
 
 // An accepted step: its outcome, how the tag of a reply that it took in compared, and what becomes of the board's parts and cells.
-#[derive(Drop)]
+#[derive(Clone, Copy)]
 pub struct Change {
     pub outcome: Outcome,
     pub compared: Compared,
@@ -35,7 +37,7 @@ pub struct Change {
 }
 
 // What a step comes to: the number of the question that refuses it, or what it changes.
-#[derive(Drop)]
+#[derive(Clone, Copy)]
 pub enum Decision {
     Refuse(u32),
     Accept(Change),

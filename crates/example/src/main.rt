@@ -1,5 +1,7 @@
 // The README's worked example, P2 of document 01, by the proved steps. Each answer is a line: its outcome's number, its
 // refusal, and its tag's timestamp, console number and value.
+#![tactic(auto)]
+
 use board::{Answer, Board, ConsoleId, NodeId};
 use libc::STDOUT_FILENO;
 

@@ -1,11 +1,13 @@
 // The calls for Rust and C, on a board in words of memory that the caller lends.
+#![tactic(auto)]
+
 use board::Board;
 
 mod calls;
 mod lists;
 
 // The board midway through a list of steps, and whether one of them has been accepted.
-#[derive(Drop)]
+#[derive(Clone, Copy)]
 pub struct Midway {
     pub board: Board,
     pub moved: bool,

@@ -1,4 +1,6 @@
 // A board in words of 32 bits: which words stand for a board, reading it from them, and writing it into them.
+#![tactic(auto)]
+
 use parts::{CELLS, CONSOLES, NODES};
 
 pub mod reading;

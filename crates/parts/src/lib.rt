@@ -1,5 +1,6 @@
 // The parts of a board: what document 01 defines without speaking of a whole board.
 // The types and limits are here; each module below holds the functions on one kind of part.
+#![tactic(auto)]
 
 // The most nodes and consoles of a board and the greatest timestamp (document 01, 'The board').
 // Callers read them off the board's own type.
@@ -17,21 +18,21 @@ pub const CONSOLES: usize = MAX_CONSOLES as usize;
 pub const CELLS: usize = (MAX_CONSOLES * MAX_NODES) as usize;
 
 // Document 01's console number and node number: separate quantities, each checked once against m or n.
-#[derive(Drop)]
+#[derive(Clone, Copy)]
 pub struct ConsoleId(pub u32);
 
-#[derive(Drop)]
+#[derive(Clone, Copy)]
 pub struct NodeId(pub u32);
 
 // Document 01's tag: a timestamp, and the number of the console that chose it.
-#[derive(Drop)]
+#[derive(Clone, Copy)]
 pub struct Tag {
     pub ts: u32,
     pub console: u32,
 }
 
 // Document 01's frame, with 'nothing' for an empty cell. Ask and put go to the node, reply and ack to the console.
-#[derive(Drop)]
+#[derive(Clone, Copy)]
 pub enum Frame {
     Nothing,
     Ask,
@@ -41,13 +42,13 @@ pub enum Frame {
 }
 
 // Document 01's cell: the link between one console and one node, which keeps only the newest frame.
-#[derive(Drop)]
+#[derive(Clone, Copy)]
 pub struct Cell {
     pub frame: Frame,
 }
 
 // Document 01's node: a replica of the register.
-#[derive(Drop)]
+#[derive(Clone, Copy)]
 pub struct Node {
     pub up: bool,
     pub tag: Tag,
@@ -55,7 +56,7 @@ pub struct Node {
 }
 
 // Whether an operation is a read or a write.
-#[derive(Drop)]
+#[derive(Clone, Copy)]
 pub enum Kind {
     Read,
     Write,
@@ -63,7 +64,7 @@ pub enum Kind {
 
 // What a console is doing. Asking is the query phase and telling the propagation phase (write-back) of its
 // operation; document 01 calls both 'waiting'. An idle or down console has no operation, and so no kind.
-#[derive(Drop)]
+#[derive(Clone, Copy)]
 pub enum State {
     Idle,
     Asking(Kind),
@@ -74,7 +75,7 @@ pub enum State {
 // Document 01's console: a client of the register. 'answered' has one bit for each node that has answered in this
 // phase; 'alike' is document 02's mark, all alike so far: while it is on, every answer of this asking has carried the same tag;
 // 'best' and 'value' are the greatest tag heard or chosen, and its value.
-#[derive(Drop)]
+#[derive(Clone, Copy)]
 pub struct Console {
     pub state: State,
     pub wanted: u32,
@@ -85,14 +86,14 @@ pub struct Console {
 }
 
 // The release that a board is made under and keeps (document 02, Paper 4). From release 2 on a read may finish early.
-#[derive(Drop)]
+#[derive(Clone, Copy)]
 pub enum Release {
     One,
     Two,
 }
 
 // What a board is made with: its release, and document 01's n, the nodes, and m, the consoles.
-#[derive(Drop)]
+#[derive(Clone, Copy)]
 pub struct Setup {
     pub release: Release,
     pub n: u32,
@@ -100,7 +101,7 @@ pub struct Setup {
 }
 
 // Document 01's outcome. Only a finished operation's carries a tag and a value.
-#[derive(Drop)]
+#[derive(Clone, Copy)]
 pub enum Outcome {
     Refused,
     Done,
@@ -113,7 +114,7 @@ pub enum Outcome {
 
 // How the tag of a reply compares with the best tag that its console had before (document 02, Paper 3). None is for a step
 // that takes no reply in.
-#[derive(Drop)]
+#[derive(Clone, Copy)]
 pub enum Compared {
     None,
     Lower,

@@ -1,6 +1,8 @@
 // Reads a schedule from standard input and answers each of its lines on standard output. All that a line comes to is done by the
 // crate schedule; this program only reads and writes. If it cannot, it says why in one line on standard error and stops; if
 // nobody reads its output any more, the system ends it.
+#![tactic(auto)]
+
 ghost use Rattle.std.specs.Prelude.{◌≤◌, length};
 
 use csv_lines::splitting::HELD_BYTES;
@@ -10,7 +12,7 @@ use schedule::chunks::{CHUNK_BYTES, OUT_BYTES, run_chunk, run_end, start};
 
 // A turn of reading: where the run stands after it, whether there may be more input, and whether all reads and writes
 // went well so far.
-#[derive(Drop)]
+#[derive(Clone, Copy)]
 struct Turn {
     position: Position,
     goes_on: bool,

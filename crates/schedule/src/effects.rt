@@ -13,7 +13,7 @@ use csv_lines::{Line, Output};
 use verbs::step_known;
 
 // The board after a line, and how far the output is written.
-#[derive(Drop)]
+#[derive(Clone, Copy)]
 pub(crate) struct LineRun {
     pub board: Board,
     pub wrote: usize,

@@ -1,4 +1,6 @@
 // The verbs: the steps by their numbers, as programs and callers of a list name them.
+#![tactic(auto)]
+
 ghost use Rattle.std.specs.Prelude.{◌≡◌};
 ghost use Rattle.board.specs.WellFormed.{well_formed};
 ghost use Rattle.verbs.specs.Verbs.{step_of};
