@@ -1,7 +1,7 @@
 -- Laws of fields, numbers and lines.
 -- A function that goes along a text cites a law for one byte more (index-miss, count-step, read_more) and one for the end.
 use mathlib.Core.Path.{◌≡◌, refl, sym, ap, ◌∙◌}
-use mathlib.Core.Bool.{Bool, true, false, cond, ◌&&◌, and_false}
+use mathlib.Core.Bool.{Bool, true, false, cond, ◌&&◌, and-false}
 use mathlib.Core.List.{List, [], ◌∷◌}
 use Prim.Native.Nat.{ℕ, zero, suc, ◌+◌, ◌-◌, ◌*◌, ◌^◌, ◌≤◌, ◌<◌}
 use native.Mathlib.Numerals.{add-one}
@@ -71,7 +71,7 @@ quoted_short s h = rw (lt-leb 2 (length s) h)
 
 pub quoted_bare : (s : List ℕ) → (get_or s 0 0 ≡ quote_byte → ⊥) → quoted s ≡ false
 unfolding quoted
-quoted_bare s h = rw (ne_eqb (get_or s 0 0) quote_byte h, and_false)
+quoted_bare s h = rw (ne_eqb (get_or s 0 0) quote_byte h, and-false)
 
 pub quoted_end : (s : List ℕ) → 2 ≤ length s → get_or s 0 0 ≡ quote_byte → quoted s ≡ eqb (get_or s (length s - 1) 0) quote_byte
 unfolding quoted
@@ -166,7 +166,7 @@ value_grows a (x ∷ s) = omega (arith, value_grows (a * 10 + (x - zero_byte)) s
 pub read_big : (a : ℕ) (s : List ℕ) → 2 ^ 32 ≤ a → read_from a s ≡ Bad
 read_big a s h =
     let g : 2 ^ 32 ≤ value_from a s = omega (arith, value_grows a s) in
-    rw (le-ltb (value_from a s) (2 ^ 32) g, and_false)
+    rw (le-ltb (value_from a s) (2 ^ 32) g, and-false)
 
 pub read_end : (s : List ℕ) (i a : ℕ) → length s ≤ i → a < 2 ^ 32 → read_from a (drop i s) ≡ Is a
 unfolding all_digits value_from
@@ -179,7 +179,7 @@ module _ (s : List ℕ) (i a : ℕ) (h : i < length s) where
 
   pub read_high : nine_byte < get_or s i 0 → read_from a (drop i s) ≡ Bad
   unfolding all_digits value_from
-  read_high l = rw (drop-cons s i 0 h, lt-leb (get_or s i 0) nine_byte l, and_false)
+  read_high l = rw (drop-cons s i 0 h, lt-leb (get_or s i 0) nine_byte l, and-false)
 
   pub read_more : zero_byte ≤ get_or s i 0 → get_or s i 0 ≤ nine_byte → (d : ℕ) → d ≡ get_or s i 0 - zero_byte → read_from a (drop i s) ≡ read_from (a * 10 + d) (drop (i + 1) s)
   unfolding all_digits value_from

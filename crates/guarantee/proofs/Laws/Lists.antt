@@ -37,10 +37,12 @@ all_head (p also _) = p
 pub any_each : {A : Type 0} {R : A → A → Type 0} {P Q : A → Type 0} → ((x y : A) → R x y → P x → Q y) → {l r : List A} → Each R l r → Any P l → Any Q r
 any_each h (link e es) (here p) = here (h _ _ e p)
 any_each h (link e es) (there p) = there (any_each h es p)
+any_each {A = A} {R = R} {P = P} {Q = Q} h no_more x4 = elim x4 [ ]
 
 pub any_all : {A : Type 0} {P Q : A → Type 0} {l : List A} → All P l → Any Q l → Any (λ x. P x × Q x) l
 any_all (p also ps) (here q) = here (p, q)
 any_all (p also ps) (there q) = there (any_all ps q)
+any_all {A = A} {P = P} {Q = Q} none x3 = elim x3 [ ]
 
 pub any_get : {A : Type 0} {P : A → Type 0} {Q : Type 0} {l : List A} → ((x : A) → P x → Q) → Any P l → Q
 any_get f (here p) = f _ p

@@ -20,7 +20,7 @@ use Rattle.guarantee.proofs.Laws.States.{both, telling_waits}
 use Rattle.guarantee.proofs.Board.Boards.{Good}
 use Rattle.guarantee.proofs.Board.Consoles.{Fair, zero_good}
 use Rattle.guarantee.proofs.Run.Moves.{Moves, OpOk}
-use mathlib.Core.Bool.{and_false}
+use mathlib.Core.Bool.{and-false}
 
 one_le : (a b : Bool) → (a ≡ true → b ≡ true) → one a ≤ one b
 one_le true b h = omega (arith, ap one (h refl))
@@ -37,6 +37,7 @@ pub tally_lt : {R : Op → Op → Type 0} {P : Op → Type 0} (p q : Op → Bool
 unfolding tally
 tally_lt p q h s (link {x} {y} e es) (here z) = omega (arith, ap one (s x y e z).0, ap one (s x y e z).1, tally_le p q h es)
 tally_lt p q h s (link {x} {y} e es) (there z) = omega (arith, one_le (p x) (q y) (h x y e), tally_lt p q h s es z)
+tally_lt {R = R} {P = P} p q h s no_more x4 = elim x4 [ ]
 
 pub tally_none : (p : Op → Bool) {l : List Op} → All (λ x. p x ≡ false) l → tally p l ≡ 0
 unfolding tally
@@ -51,7 +52,7 @@ written : (x : Op) → x.wrote ≡ true → x.turned ≡ true → has_written x 
 written x e f = both e f
 
 pub unwritten : (x : Op) → x.turned ≡ false → has_written x ≡ false
-unwritten x e = rw e (and_false x.wrote)
+unwritten x e = rw e (and-false x.wrote)
 
 pub record Known (σ : Setup) (l : List Op) (t : Tag) (v : ℕ) : Type 0 where
   pub good : Good σ t v

@@ -35,7 +35,7 @@ use Rattle.guarantee.proofs.Board.Boards.{BoardOk, Good, TagKind, beside_console
 use Rattle.guarantee.proofs.Board.Consoles.{Fair, hears_kind, next_good}
 use Rattle.guarantee.proofs.Delivery.Effects.{Own, ends_now, goes_on, going, reply_kind, turns-now}
 use Rattle.guarantee.proofs.Delivery.Deliveries.{Chooses, StepEffect, deliver_effect, effect, effect_ok, refusal}
-use Rattle.guarantee.proofs.Run.Starts.{Begins, begin_effect, down_ok, down_state, down_ups, fresh_console, fresh_node_lem, fresh_ok, node_ok, node_side, node_ups}
+use Rattle.guarantee.proofs.Run.Starts.{Begins, begin_effect, down_ok, down_state, down_ups, fresh_console, fresh_node_lem, fresh_ok, node_ok_lem, node_side, node_ups}
 use Rattle.guarantee.proofs.Run.Moves.{Moves, OpOk, deliver_moves, down_moves, open_complete, open_is}
 use Rattle.guarantee.proofs.Run.Known.{Known, good_fair, known_cons, known_fair, known_moves, more_written, tally_none}
 use Rattle.guarantee.proofs.Run.Invariant.{Inv, all_apart, inv_refused, inv_step, open_move, pairs_move, stepped, waits_beside}
@@ -172,7 +172,7 @@ module _ {σ : Setup} (r : Run) (h : Inv σ r) where
   inv-node s u k no_node q z = inv_refused r h
   inv-node s u k (did-node l) q z = rw (q Done) (inv-same (with_node r.board k (with_up u (node_at r.board k))) r.ops (up_after s r.up)
       (all_apart al.n_5 (node_side r.board u k h.ok kn σ.m) (λ d l _. omega arith) h.ops)
-      (λ _ fair q. node_ok r.board u k q kn)
+      (λ _ fair q. node_ok_lem r.board u k q kn)
       (λ d l w. rw ((node_side r.board u k h.ok kn σ.m).console d (omega arith)) at w)
       (λ j l. node_ups r.board u k h.ok kn j ∙ rw (h.ups j l) (sym (z j))))
     where
