@@ -14,10 +14,10 @@ use Rattle.parts.specs.Tags.{zero_tag}
 use Rattle.parts.specs.Parts.{cell_of, fresh_node, node_in, cell_index, set_frame, set_row}
 
 -- within a list it does not matter what stands for an element beyond its end
-get_d_within : {A : Type 0} (xs : List A) (i : ℕ) (d e : A) → i < length xs → get_or xs i d ≡ get_or xs i e
-get_d_within [] i d e h = absurd (omega arith)
-get_d_within (x ∷ xs) zero d e h = refl
-get_d_within (x ∷ xs) (suc i) d e h = get_d_within xs i d e (le_of_suc-le-suc h)
+get_or_within : {A : Type 0} (xs : List A) (i : ℕ) (d e : A) → i < length xs → get_or xs i d ≡ get_or xs i e
+get_or_within [] i d e h = absurd (omega arith)
+get_or_within (x ∷ xs) zero d e h = refl
+get_or_within (x ∷ xs) (suc i) d e h = get_or_within xs i d e (le_of_suc-le-suc h)
 
 -- a node of zeros: down, with tag (0, 0) and value 0
 abbrev pub zero_node : Node
@@ -26,7 +26,7 @@ zero_node = record { up = false; tag = zero_tag; value = 0 }
 -- the code reads a node of zeros, beyond the list; within it that makes no difference
 pub node_read : (xs : List Node) (k : ℕ) → k < length xs → get_or xs k zero_node ≡ node_in xs k
 unfolding node_in
-node_read xs k h = get_d_within xs k zero_node fresh_node h
+node_read xs k h = get_or_within xs k zero_node fresh_node h
 
 -- one cell more of a row
 pub row_more : (xs : List Cell) (c k : ℕ) (f : Frame) → set_frame (set_row xs c k f) c k f ≡ set_row xs c (k + 1) f

@@ -152,23 +152,23 @@ module _ {K : TagKind} {σ : Setup} (b : Board) (u : Bool) (k : ℕ) (h : BoardO
 
 -- ---- a fresh board
 
-get_d_replicate_same : {A : Type 0} (n k : ℕ) (a : A) → get_or (replicate n a) k a ≡ a
-get_d_replicate_same zero k a = refl
-get_d_replicate_same (suc n) zero a = refl
-get_d_replicate_same (suc n) (suc k) a = get_d_replicate_same n k a
+get_or_replicate_same : {A : Type 0} (n k : ℕ) (a : A) → get_or (replicate n a) k a ≡ a
+get_or_replicate_same zero k a = refl
+get_or_replicate_same (suc n) zero a = refl
+get_or_replicate_same (suc n) (suc k) a = get_or_replicate_same n k a
 
 module _ (σ : Setup) where
   pub fresh_node_lem : (k : ℕ) → node_at (fresh_board σ) k ≡ fresh_node
   unfolding node_at node_in fresh_board
-  fresh_node_lem k = get_d_replicate_same 5 k fresh_node
+  fresh_node_lem k = get_or_replicate_same 5 k fresh_node
 
   pub fresh_console : (c : ℕ) → console_at (fresh_board σ) c ≡ idle_console
   unfolding console_at console_in fresh_board
-  fresh_console c = get_d_replicate_same 8 c idle_console
+  fresh_console c = get_or_replicate_same 8 c idle_console
 
   fresh-frame : (c k : ℕ) → frame_at (fresh_board σ) c k ≡ Nothing
   unfolding frame_at frame_in fresh_board
-  fresh-frame c k = ap (λ (x : Cell). x.frame) (get_d_replicate_same 40 (cell_index c k) (cell_of Nothing))
+  fresh-frame c k = ap (λ (x : Cell). x.frame) (get_or_replicate_same 40 (cell_index c k) (cell_of Nothing))
 
   fresh-state : Passes σ Idle idle_console
   unfolding state_ok rest_ok is_zero mark_ok
