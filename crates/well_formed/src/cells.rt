@@ -5,6 +5,7 @@ ghost use Rattle.well_formed.specs.Clauses.{frame_ok, cell_ok, cells_ok};
 use crate::tags::is_tag_ok;
 use parts::{CELLS, Cell, ConsoleId, Frame, MAX_CONSOLES, MAX_NODES, NodeId, Setup};
 
+#[tactic(auto, unfolding(crate::specs::Clauses::frame_ok))]
 fn is_frame_ok(setup: Setup, f: Frame) -> bool
     ensures { result ≡ frame_ok setup f }
 {
@@ -17,6 +18,7 @@ fn is_frame_ok(setup: Setup, f: Frame) -> bool
     }
 }
 
+#[tactic(auto, unfolding(crate::specs::Clauses::cell_ok))]
 fn is_cell_ok(setup: Setup, c: ConsoleId, k: NodeId, f: Frame) -> bool
     ensures { result ≡ cell_ok setup c.0 k.0 f }
 {

@@ -6,6 +6,7 @@ use crate::tags::{is_tag_ok, is_zero};
 use parts::answered::{is_only_below, set_size};
 use parts::{CONSOLES, Console, ConsoleId, Kind, MAX_CONSOLES, Setup, State};
 
+#[tactic(auto, unfolding(crate::specs::Clauses::rest_ok))]
 fn is_rest_ok(x: Console) -> bool
     ensures { result ≡ rest_ok x }
 {
@@ -19,6 +20,7 @@ fn is_rest_ok(x: Console) -> bool
 }
 
 // A read's wanted value is 0.
+#[tactic(auto, unfolding(crate::specs::Clauses::wanted_ok))]
 fn is_wanted_ok(w: Kind, wanted: u32) -> bool
     ensures { result ≡ wanted_ok w wanted }
 {
@@ -28,6 +30,7 @@ fn is_wanted_ok(w: Kind, wanted: u32) -> bool
     }
 }
 
+#[tactic(auto, unfolding(crate::specs::Clauses::wait_ok))]
 fn is_wait_ok(setup: Setup, q: u32, w: Kind, x: Console) -> bool
     ensures { result ≡ wait_ok setup q w x }
 {
@@ -41,6 +44,7 @@ fn is_wait_ok(setup: Setup, q: u32, w: Kind, x: Console) -> bool
     is_wanted_ok(w, x.wanted)
 }
 
+#[tactic(auto, unfolding(crate::specs::Clauses::state_ok))]
 fn is_state_ok(setup: Setup, x: Console, s: State) -> bool
     ensures { result ≡ state_ok setup x s }
 {
@@ -61,6 +65,7 @@ fn is_state_ok(setup: Setup, x: Console, s: State) -> bool
 }
 
 // Whether a console in state s may have its mark as it is.
+#[tactic(auto, unfolding(crate::specs::Clauses::mark_ok))]
 fn is_mark_ok(x: Console, s: State) -> bool
     ensures { result ≡ mark_ok x s }
 {
@@ -80,6 +85,7 @@ fn is_mark_ok(x: Console, s: State) -> bool
     }
 }
 
+#[tactic(auto, unfolding(crate::specs::Clauses::console_ok))]
 fn is_console_ok(setup: Setup, c: ConsoleId, x: Console) -> bool
     ensures { result ≡ console_ok setup c.0 x }
 {

@@ -5,6 +5,7 @@ ghost use Rattle.well_formed.specs.Clauses.{node_ok, nodes_ok};
 use crate::tags::{is_tag_ok, is_zero};
 use parts::{MAX_NODES, NODES, Node, NodeId, Setup};
 
+#[tactic(auto, unfolding(crate::specs::Clauses::node_ok))]
 fn is_node_ok(setup: Setup, k: NodeId, x: Node) -> bool
     ensures { result ≡ node_ok setup k.0 x }
 {

@@ -5,6 +5,7 @@ ghost use Rattle.well_formed.specs.Clauses.{nodes_allowed, consoles_allowed, set
 use parts::{MAX_CONSOLES, MAX_NODES, Setup};
 
 // Question 2.
+#[tactic(auto, unfolding(crate::specs::Clauses::nodes_allowed))]
 pub fn is_node_count(n: u32) -> bool
     ensures { result ≡ nodes_allowed n }
 {
@@ -15,6 +16,7 @@ pub fn is_node_count(n: u32) -> bool
 }
 
 // Question 3.
+#[tactic(auto, unfolding(crate::specs::Clauses::consoles_allowed))]
 pub fn is_console_count(m: u32) -> bool
     ensures { result ≡ consoles_allowed m }
 {
@@ -24,6 +26,7 @@ pub fn is_console_count(m: u32) -> bool
     m <= MAX_CONSOLES
 }
 
+#[tactic(auto, unfolding(crate::specs::Clauses::setup_ok))]
 pub fn is_setup_ok(setup: Setup) -> bool
     ensures { result ≡ setup_ok setup }
 {

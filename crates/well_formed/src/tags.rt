@@ -5,6 +5,7 @@ ghost use Rattle.well_formed.specs.Clauses.{is_zero, tag_ok};
 use parts::{MAX_TS, Setup, Tag};
 
 // Whether this is tag (0, 0) with value 0.
+#[tactic(auto, unfolding(crate::specs::Clauses::is_zero))]
 pub(crate) fn is_zero(t: Tag, v: u32) -> bool
     ensures { result ≡ is_zero t v }
 {
@@ -17,6 +18,7 @@ pub(crate) fn is_zero(t: Tag, v: u32) -> bool
     v == 0
 }
 
+#[tactic(auto, unfolding(crate::specs::Clauses::tag_ok))]
 pub(crate) fn is_tag_ok(setup: Setup, t: Tag, v: u32) -> bool
     ensures { result ≡ tag_ok setup t v }
 {
