@@ -7,6 +7,7 @@ use parts::answered::is_member;
 use parts::{Console, Kind, NodeId, State, Tag};
 
 // The console without an operation, in state s.
+#[tactic(auto, unfolding(crate::specs::Changes::rests))]
 pub fn rest(s: State, x: Console) -> Console
     ensures { result ≡ rests s x }
 {
@@ -21,6 +22,7 @@ pub fn rest(s: State, x: Console) -> Console
 }
 
 // The console as it begins to ask.
+#[tactic(auto, unfolding(crate::specs::Changes::asks))]
 pub fn ask(w: Kind, v: u32, x: Console) -> Console
     ensures { result ≡ asks w v x }
 {
@@ -35,6 +37,7 @@ pub fn ask(w: Kind, v: u32, x: Console) -> Console
 }
 
 // Whether the console asks and has no answer yet from node k.
+#[tactic(auto, unfolding(crate::specs::Changes::awaits))]
 pub fn awaits_reply(x: Console, k: NodeId) -> bool
     ensures { result ≡ awaits is_asking x k.0 }
 {
@@ -47,6 +50,7 @@ pub fn awaits_reply(x: Console, k: NodeId) -> bool
 }
 
 // Whether the console tells and has no answer yet from node k.
+#[tactic(auto, unfolding(crate::specs::Changes::awaits))]
 pub fn awaits_ack(x: Console, k: NodeId) -> bool
     ensures { result ≡ awaits is_telling x k.0 }
 {

@@ -22,6 +22,7 @@ use parts::{
 
 // The frame f of console c, which is x, and node k, which is y, is delivered; formed says whether the board is well formed. Promised
 // if the tags may be compared; that need hold only on a well-formed board that has console c and node k.
+#[tactic(auto, unfolding(crate::specs::Deliver::delivered, crate::specs::Questions::guarded))]
 pub fn delivered(
     formed: bool,
     setup: Setup,
@@ -63,6 +64,7 @@ fn is_withdrawn(x: Console, f: Frame) -> bool
 }
 
 // Question 8 has refused an empty cell, and a frame that is withdrawn does not come here.
+#[tactic(auto, unfolding(crate::specs::Deliver::on_frame))]
 fn deliver_frame(setup: Setup, c: ConsoleId, k: NodeId, x: Console, y: Node, f: Frame) -> Decision
     ensures { Comparable k.0 x y f → result ≡ on_frame setup c.0 k.0 x y f }
 {
@@ -75,6 +77,7 @@ fn deliver_frame(setup: Setup, c: ConsoleId, k: NodeId, x: Console, y: Node, f: 
     }
 }
 
+#[tactic(auto, unfolding(crate::specs::Deliver::on_ask, crate::specs::Questions::guarded))]
 fn deliver_ask(y: Node) -> Decision
     ensures { result ≡ on_ask y }
 {
@@ -90,6 +93,7 @@ fn deliver_ask(y: Node) -> Decision
     )
 }
 
+#[tactic(auto, unfolding(crate::specs::Deliver::on_put, crate::specs::Questions::guarded))]
 fn deliver_put(y: Node, t: Tag, v: u32) -> Decision
     ensures { y.tag.console < max_consoles → t.console < max_consoles → result ≡ on_put y t v }
 {
@@ -104,6 +108,7 @@ fn deliver_put(y: Node, t: Tag, v: u32) -> Decision
     )
 }
 
+#[tactic(auto, unfolding(crate::specs::Deliver::on_reply))]
 fn deliver_reply(setup: Setup, c: ConsoleId, k: NodeId, x: Console, t: Tag, v: u32) -> Decision
     ensures { k.0 < 8 → x.best.console < max_consoles → t.console < max_consoles → result ≡ on_reply setup c.0 k.0 x t v }
 {
@@ -114,6 +119,7 @@ fn deliver_reply(setup: Setup, c: ConsoleId, k: NodeId, x: Console, t: Tag, v: u
 }
 
 // The reply is taken in.
+#[tactic(auto, unfolding(crate::specs::Deliver::replied, crate::specs::Questions::guarded))]
 fn take_reply(setup: Setup, c: ConsoleId, reply: TakenIn) -> Decision
     ensures { result ≡ replied setup c.0 reply }
 {
@@ -132,6 +138,7 @@ fn take_reply(setup: Setup, c: ConsoleId, reply: TakenIn) -> Decision
 }
 
 // Whether a read finishes with the replies alone (document 02, Paper 4); x is the console with the reply taken in.
+#[tactic(auto, unfolding(crate::specs::Deliver::finishes_early))]
 fn finishes_early(setup: Setup, x: Console) -> bool
     ensures { result ≡ finishes_early setup x }
 {
@@ -157,6 +164,7 @@ fn has_next(x: Console) -> bool
     x.best.ts < MAX_TS
 }
 
+#[tactic(auto, unfolding(crate::specs::Deliver::on_ack))]
 fn deliver_ack(setup: Setup, k: NodeId, x: Console) -> Decision
     ensures { k.0 < 8 → result ≡ on_ack setup k.0 x }
 {
@@ -167,6 +175,7 @@ fn deliver_ack(setup: Setup, k: NodeId, x: Console) -> Decision
 }
 
 // An ack is taken in, with which the console is x.
+#[tactic(auto, unfolding(crate::specs::Deliver::acknowledged))]
 fn take_ack(setup: Setup, x: Console) -> Decision
     ensures { result ≡ acknowledged setup x }
 {
@@ -177,6 +186,7 @@ fn take_ack(setup: Setup, x: Console) -> Decision
 }
 
 // The console, with the reply taken in, turns, where a write's timestamp can grow.
+#[tactic(auto, unfolding(crate::specs::Deliver::turned))]
 fn turn(c: ConsoleId, how: Compared, x: Console) -> Decision
     ensures { (writes x.state ≡ true → x.best.ts < max_ts) → result ≡ turned c.0 how x }
 {
@@ -191,6 +201,7 @@ fn turn(c: ConsoleId, how: Compared, x: Console) -> Decision
 }
 
 // The cell empties, and the console is x.
+#[tactic(auto, unfolding(crate::specs::Deliver::heard))]
 fn hear(how: Compared, x: Console) -> Decision
     ensures { result ≡ heard how x }
 {
@@ -203,6 +214,7 @@ fn hear(how: Compared, x: Console) -> Decision
 }
 
 // The cell empties, and the console, which is x, has finished its operation.
+#[tactic(auto, unfolding(crate::specs::Deliver::finished))]
 fn finish(how: Compared, x: Console) -> Decision
     ensures { result ≡ finished how x }
 {
@@ -216,6 +228,7 @@ fn finish(how: Compared, x: Console) -> Decision
 }
 
 // The cell empties, and nothing else changes.
+#[tactic(auto, unfolding(crate::specs::Deliver::discards))]
 fn discard() -> Decision
     ensures { result ≡ discards }
 {

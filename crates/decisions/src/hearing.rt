@@ -8,6 +8,7 @@ use parts::answered::with_member;
 use parts::{Compared, Console, NodeId, Tag};
 
 // The mark once a reply that compared so is taken in.
+#[tactic(auto, unfolding(crate::specs::Changes::still_alike))]
 fn is_still_alike(x: Console, how: Compared) -> bool
     ensures { result ≡ still_alike x how }
 {
@@ -56,6 +57,7 @@ pub fn hear_reply(x: Console, k: NodeId, t: Tag, v: u32) -> TakenIn
 }
 
 // The console with an ack of node k taken in, where a byte has room for k.
+#[tactic(auto, unfolding(crate::specs::Changes::acked))]
 pub fn hear_ack(x: Console, k: NodeId) -> Console
     ensures { k.0 < 8 → result ≡ acked x k.0 }
 {

@@ -6,6 +6,7 @@ ghost use Rattle.decisions.specs.Changes.{with_up, taken};
 use parts::{Node, Tag};
 
 // The node, up or down, with its tag and value.
+#[tactic(auto, unfolding(crate::specs::Changes::with_up))]
 pub fn set_up(x: Node, up: bool) -> Node
     ensures { result ≡ with_up up x }
 {
@@ -18,6 +19,7 @@ pub fn set_up(x: Node, up: bool) -> Node
 }
 
 // The node after a put: with the greater tag and its value, where the tags may be compared.
+#[tactic(auto, unfolding(crate::specs::Changes::taken))]
 pub fn take_put(x: Node, t: Tag, v: u32) -> Node
     ensures { x.tag.console < max_consoles → t.console < max_consoles → result ≡ taken x t v }
 {

@@ -13,6 +13,7 @@ use crate::{Change, Decision, Part, Sent};
 use parts::{Compared, Console, ConsoleId, Frame, Kind, Node, NodeId, Outcome, Setup, State};
 
 // Console c, which is x, begins an operation of either kind; v is the wanted value.
+#[tactic(auto, unfolding(crate::specs::Steps::begins, crate::specs::Questions::guarded))]
 pub fn begin(formed: bool, setup: Setup, c: ConsoleId, w: Kind, v: u32, x: Console) -> Decision
     ensures { result ≡ begins formed setup c.0 w v x }
 {
@@ -33,6 +34,7 @@ pub fn begin(formed: bool, setup: Setup, c: ConsoleId, w: Kind, v: u32, x: Conso
 }
 
 // Console c, which is x, goes down.
+#[tactic(auto, unfolding(crate::specs::Steps::ends, crate::specs::Questions::guarded))]
 pub fn end(formed: bool, setup: Setup, c: ConsoleId, x: Console) -> Decision
     ensures { result ≡ ends formed setup c.0 x }
 {
@@ -50,6 +52,7 @@ pub fn end(formed: bool, setup: Setup, c: ConsoleId, x: Console) -> Decision
 }
 
 // Node k, which is y, goes down.
+#[tactic(auto, unfolding(crate::specs::Steps::falls, crate::specs::Questions::guarded))]
 pub fn fall(formed: bool, setup: Setup, k: NodeId, y: Node) -> Decision
     ensures { result ≡ falls formed setup k.0 y }
 {
@@ -66,6 +69,7 @@ pub fn fall(formed: bool, setup: Setup, k: NodeId, y: Node) -> Decision
 }
 
 // Node k, which is y, comes back.
+#[tactic(auto, unfolding(crate::specs::Steps::rises, crate::specs::Questions::guarded))]
 pub fn rise(formed: bool, setup: Setup, k: NodeId, y: Node) -> Decision
     ensures { result ≡ rises formed setup k.0 y }
 {

@@ -17,6 +17,7 @@ fn next_ts(ts: u32) -> u32
 }
 
 // The tag to tell: a write chooses the next one, a read keeps its best.
+#[tactic(auto, unfolding(crate::specs::Changes::next_tag))]
 fn told_tag(c: ConsoleId, x: Console) -> Tag
     ensures { (writes x.state ≡ true → x.best.ts < max_ts) → result ≡ cond (writes x.state) (next_tag c.0 x) x.best }
 {
@@ -46,6 +47,7 @@ fn told_value(x: Console) -> u32
 }
 
 // The console as it turns, where a write's timestamp can grow (question 10).
+#[tactic(auto, unfolding(crate::specs::Changes::tells))]
 pub fn tell(c: ConsoleId, x: Console) -> Console
     ensures { (writes x.state ≡ true → x.best.ts < max_ts) → result ≡ tells c.0 x }
 {
