@@ -9,6 +9,7 @@ use parts::{CELLS, CONSOLES, Cell, ConsoleId, NODES, NodeId};
 
 impl Board {
     // What was decided of console c and node k is done on the board.
+    #[tactic(auto, unfolding(crate::specs::Applied::applied))]
     pub(crate) fn apply(self, c: ConsoleId, k: NodeId, d: Decision) -> Answer
         ensures { result ≡ applied self c.0 k.0 d }
     {
@@ -55,6 +56,7 @@ impl Board {
     }
 
     // The board with console c or node k changed, or neither.
+    #[tactic(auto, unfolding(crate::specs::Applied::with_part, crate::specs::Boards::with_console, crate::specs::Boards::with_node))]
     fn with_part(mut self, c: ConsoleId, k: NodeId, part: Part) -> Board
         ensures { result ≡ with_part self c.0 k.0 part }
     {

@@ -12,6 +12,7 @@ use well_formed::ranges::is_setup_ok;
 
 impl Board {
     // Whether the board is well formed, on any board whatever.
+    #[tactic(auto, unfolding(crate::specs::WellFormed::well_formed))]
     pub fn is_well_formed(self) -> bool
         ensures { result ≡ well_formed self }
     {

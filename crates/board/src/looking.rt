@@ -10,6 +10,7 @@ use parts::nodes::node_in;
 use parts::{Console, ConsoleId, Frame, Node, NodeId};
 
 impl Board {
+    #[tactic(auto, unfolding(crate::specs::Boards::node_at))]
     pub(crate) fn node_at(self, k: NodeId) -> Node
         ensures { result ≡ node_at self k.0 }
     {
@@ -17,6 +18,7 @@ impl Board {
         node_in(nodes, k)
     }
 
+    #[tactic(auto, unfolding(crate::specs::Boards::console_at))]
     pub(crate) fn console_at(self, c: ConsoleId) -> Console
         ensures { result ≡ console_at self c.0 }
     {
@@ -25,6 +27,7 @@ impl Board {
     }
 
     // The frame in the cell of console c and node k.
+    #[tactic(auto, unfolding(crate::specs::Boards::frame_at))]
     pub(crate) fn frame_at(self, c: ConsoleId, k: NodeId) -> Frame
         ensures { result ≡ frame_at self c.0 k.0 }
     {

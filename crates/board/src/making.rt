@@ -25,6 +25,7 @@ impl Board {
 
     // The same under a release of the caller's choice, which the board keeps. Refused with 2 or 3 if n or m is out of range;
     // the board handed back is then the fresh one of one node and one console, under release 1.
+    #[tactic(auto, unfolding(crate::specs::Steps::fresh, decisions::specs::Questions::guarded))]
     pub fn fresh_under(n: u32, m: u32, release: Release) -> Answer
         ensures { result ≡ fresh (setup_of n m release) }
     {
@@ -56,6 +57,7 @@ impl Board {
     }
 
     // The fresh board of a setup.
+    #[tactic(auto, unfolding(crate::specs::Boards::fresh_board))]
     pub(crate) fn made(setup: Setup) -> Board
         ensures { result ≡ fresh_board setup }
     {

@@ -37,6 +37,7 @@ impl Board {
     }
 
     // A begin of either kind; v is the wanted value.
+    #[tactic(auto, unfolding(crate::specs::Steps::begin))]
     fn begin_known(self, formed: bool, c: ConsoleId, w: Kind, v: u32) -> Answer
         ensures { formed ≡ well_formed self → result ≡ begin self c.0 w v }
     {
@@ -52,6 +53,7 @@ impl Board {
         self.console_down_known(self.is_well_formed(), c)
     }
 
+    #[tactic(auto, unfolding(crate::specs::Steps::console_down))]
     pub fn console_down_known(self, formed: bool, c: ConsoleId) -> Answer
         ensures { formed ≡ well_formed self → result ≡ console_down self c.0 }
     {
@@ -67,6 +69,7 @@ impl Board {
         self.node_down_known(self.is_well_formed(), k)
     }
 
+    #[tactic(auto, unfolding(crate::specs::Steps::node_down))]
     pub fn node_down_known(self, formed: bool, k: NodeId) -> Answer
         ensures { formed ≡ well_formed self → result ≡ node_down self k.0 }
     {
@@ -82,6 +85,7 @@ impl Board {
         self.node_up_known(self.is_well_formed(), k)
     }
 
+    #[tactic(auto, unfolding(crate::specs::Steps::node_up))]
     pub fn node_up_known(self, formed: bool, k: NodeId) -> Answer
         ensures { formed ≡ well_formed self → result ≡ node_up self k.0 }
     {
