@@ -12,6 +12,7 @@ use crate::{CELL_WORDS, CELLS_AT, CONSOLE_WORDS, CONSOLES_AT, NODE_WORDS, NODES_
 use board::Board;
 use parts::{CELLS, CONSOLES, Cell, Console, Frame, Kind, NODES, Node, Release, Setup, State, Tag};
 
+#[tactic(auto, unfolding(crate::specs::Layout::release_of))]
 fn release_of(i: u32) -> Release
     ensures { result ≡ release_of i }
 {
@@ -22,6 +23,7 @@ fn release_of(i: u32) -> Release
 }
 
 // The private functions below that read words are called where the words reach far enough.
+#[tactic(auto, unfolding(crate::specs::Layout::node_from))]
 fn node_from(w: &[u32], p: usize) -> Node
     requires { p + node_words ≤ length w.now }
     ensures { result ≡ node_from w.now p }
@@ -37,6 +39,7 @@ fn node_from(w: &[u32], p: usize) -> Node
     }
 }
 
+#[tactic(auto, unfolding(crate::specs::Layout::state_of))]
 fn state_of(s: u32) -> State
     ensures { result ≡ state_of s }
 {
@@ -50,6 +53,7 @@ fn state_of(s: u32) -> State
     }
 }
 
+#[tactic(auto, unfolding(crate::specs::Layout::console_from))]
 fn console_from(w: &[u32], p: usize) -> Console
     requires { p + console_words ≤ length w.now }
     ensures { result ≡ console_from w.now p }
@@ -69,6 +73,7 @@ fn console_from(w: &[u32], p: usize) -> Console
     }
 }
 
+#[tactic(auto, unfolding(crate::specs::Layout::frame_of))]
 fn frame_of(f: u32, t: Tag, v: u32) -> Frame
     ensures { result ≡ frame_of f t v }
 {
@@ -81,6 +86,7 @@ fn frame_of(f: u32, t: Tag, v: u32) -> Frame
     }
 }
 
+#[tactic(auto, unfolding(crate::specs::Layout::cell_from))]
 fn cell_from(w: &[u32], p: usize) -> Cell
     requires { p + cell_words ≤ length w.now }
     ensures { result ≡ cell_from w.now p }
@@ -138,6 +144,7 @@ fn cells_from(w: &[u32]) -> [Cell; CELLS]
     cells
 }
 
+#[tactic(auto, unfolding(crate::specs::Layout::board_in))]
 fn board_from(w: &[u32]) -> Board
     requires { board_words ≤ length w.now }
     ensures { result ≡ board_in w.now }
@@ -160,6 +167,7 @@ fn board_from(w: &[u32]) -> Board
 
 // The board in the first words. Words that stand for no board, too few of them too, are read as one that is not well
 // formed.
+#[tactic(auto, unfolding(crate::specs::Standing::decoded))]
 pub fn decode(w: &[u32]) -> Board
     ensures { result ≡ decoded w.now }
 {

@@ -16,12 +16,14 @@ const LAST_SET: u32 = 255;
 
 const LAST_MARK: u32 = 1;
 
+#[tactic(auto, unfolding(crate::specs::Standing::release_stands))]
 fn release_stands(i: u32) -> bool
     ensures { result ≡ release_stands i }
 {
     (i == 1) | (i == 2)
 }
 
+#[tactic(auto, unfolding(crate::specs::Standing::node_stands))]
 fn node_stands(w: &[u32], p: usize) -> bool
     requires { p + node_words ≤ length w.now }
     ensures { result ≡ node_stands w.now p }
@@ -29,6 +31,7 @@ fn node_stands(w: &[u32], p: usize) -> bool
     w[p] <= LAST_MARK
 }
 
+#[tactic(auto, unfolding(crate::specs::Standing::console_stands))]
 fn console_stands(w: &[u32], p: usize) -> bool
     requires { p + console_words ≤ length w.now }
     ensures { result ≡ console_stands w.now p }
@@ -36,12 +39,14 @@ fn console_stands(w: &[u32], p: usize) -> bool
     (w[p] <= LAST_STATE) & (w[p + 2] <= LAST_SET) & (w[p + 6] <= LAST_MARK)
 }
 
+#[tactic(auto, unfolding(crate::specs::Standing::frame_stands))]
 fn frame_stands(f: u32, ts: u32, console: u32, value: u32) -> bool
     ensures { result ≡ frame_stands f ts console value }
 {
     (f <= LAST_FRAME) & ((f == 2) | (f == 3) | ((ts == 0) & (console == 0) & (value == 0)))
 }
 
+#[tactic(auto, unfolding(crate::specs::Standing::cell_stands))]
 fn cell_stands(w: &[u32], p: usize) -> bool
     requires { p + cell_words ≤ length w.now }
     ensures { result ≡ cell_stands w.now p }
@@ -88,6 +93,7 @@ fn cells_stand(w: &[u32]) -> bool
     ok
 }
 
+#[tactic(auto, unfolding(crate::specs::Standing::parts_stand))]
 fn parts_stand(w: &[u32]) -> bool
     requires { board_words ≤ length w.now }
     ensures { result ≡ parts_stand w.now }
@@ -96,6 +102,7 @@ fn parts_stand(w: &[u32]) -> bool
 }
 
 // Whether the words are enough for a board, and its release and each of its parts stand in them.
+#[tactic(auto, unfolding(crate::specs::Standing::stands))]
 pub(crate) fn is_standing(w: &[u32]) -> bool
     ensures { result ≡ stands w.now }
 {

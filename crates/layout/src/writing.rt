@@ -14,6 +14,7 @@ use parts::{
     State, Tag,
 };
 
+#[tactic(auto, unfolding(crate::specs::Layout::release_number))]
 fn release_number(release: Release) -> u32
     ensures { result ≡ release_number release }
 {
@@ -43,6 +44,7 @@ pub fn put_words(w: &mut [u32], p: usize, fields: &[u32])
 
 // The private functions below that write words are called where the words reach far enough. Those of arrays and of
 // consoles also tell what their arguments' types say (a length, a byte), since reading back rests on it.
+#[tactic(auto, unfolding(crate::specs::Layout::setup_fields))]
 fn put_setup(w: &mut [u32], setup: Setup)
     requires { setup_words ≤ length w.old }
     ensures { w.new ≡ sets w.old 0 (setup_fields setup) }
@@ -58,6 +60,7 @@ fn flag(u: bool) -> u32
     if u { 1 } else { 0 }
 }
 
+#[tactic(auto, unfolding(crate::specs::Layout::node_fields))]
 fn put_node(w: &mut [u32], p: usize, x: Node)
     requires { p + node_words ≤ length w.old }
     ensures { w.new ≡ sets w.old p (node_fields x) }
@@ -78,6 +81,7 @@ fn put_nodes(w: &mut [u32], nodes: [Node; NODES])
     }
 }
 
+#[tactic(auto, unfolding(crate::specs::Layout::state_number))]
 fn state_number(s: State) -> u32
     ensures { result ≡ state_number s }
 {
@@ -107,6 +111,7 @@ fn telling_number(w: Kind) -> u32
     }
 }
 
+#[tactic(auto, unfolding(crate::specs::Layout::console_fields))]
 fn put_console(w: &mut [u32], p: usize, x: Console)
     requires { p + console_words ≤ length w.old }
     ensures { (w.new ≡ sets w.old p (console_fields x)) × Byte x }
@@ -136,6 +141,7 @@ fn put_consoles(w: &mut [u32], consoles: [Console; CONSOLES])
     }
 }
 
+#[tactic(auto, unfolding(crate::specs::Layout::frame_number))]
 fn frame_number(f: Frame) -> u32
     ensures { result ≡ frame_number f }
 {
@@ -148,6 +154,7 @@ fn frame_number(f: Frame) -> u32
     }
 }
 
+#[tactic(auto, unfolding(crate::specs::Layout::frame_tag))]
 fn frame_tag(f: Frame) -> Tag
     ensures { result ≡ frame_tag f }
 {
@@ -161,6 +168,7 @@ fn frame_tag(f: Frame) -> Tag
     }
 }
 
+#[tactic(auto, unfolding(crate::specs::Layout::frame_value))]
 fn frame_value(f: Frame) -> u32
     ensures { result ≡ frame_value f }
 {
@@ -173,6 +181,7 @@ fn frame_value(f: Frame) -> u32
     }
 }
 
+#[tactic(auto, unfolding(crate::specs::Layout::cell_fields))]
 fn put_cell(w: &mut [u32], p: usize, x: Cell)
     requires { p + cell_words ≤ length w.old }
     ensures { w.new ≡ sets w.old p (cell_fields x) }
@@ -195,6 +204,7 @@ fn put_cells(w: &mut [u32], cells: [Cell; CELLS])
     }
 }
 
+#[tactic(auto, unfolding(crate::specs::Layout::encoded))]
 fn put_board(w: &mut [u32], b: Board)
     requires { board_words ≤ length w.old }
     ensures { (w.new ≡ encoded w.old b) × (decoded w.new ≡ b) }

@@ -17,6 +17,7 @@ pub fn step_of(b: Board, verb: u32, x: u32, y: u32) -> Answer
 }
 
 // The same for a caller who knows whether the board is well formed.
+#[tactic(auto, unfolding(crate::specs::Verbs::step_of))]
 pub fn step_known(b: Board, formed: bool, verb: u32, x: u32, y: u32) -> Answer
     ensures { formed ≡ well_formed b → result ≡ step_of verb x y b }
 {
