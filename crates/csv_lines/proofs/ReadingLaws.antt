@@ -1,5 +1,6 @@
 -- Laws of fields, numbers and lines.
--- A function that goes along a text cites a law for one byte more (index-miss, count-step, read_more) and one for the end.
+-- A function that goes along a text cites a law for one byte more (index_miss, count_step, read_more) and one for the
+-- end.
 use mathlib.Core.Path.{◌≡◌, refl, sym, ap, ◌∙◌}
 use mathlib.Core.Bool.{Bool, true, false, cond, ◌&&◌, and-false}
 use mathlib.Core.List.{List, [], ◌∷◌}
@@ -185,6 +186,10 @@ module _ (s : List ℕ) (i a : ℕ) (h : i < length s) where
   unfolding all_digits value_from
   read_more l g d e = rw (add-one, drop-cons s i 0 h, e, le-leb zero_byte (get_or s i 0) l, le-leb (get_or s i 0) nine_byte g)
 
+  -- a digit that makes a number beyond 32 bits
+  pub read_over : zero_byte ≤ get_or s i 0 → get_or s i 0 ≤ nine_byte → (d : ℕ) → d ≡ get_or s i 0 - zero_byte → 2 ^ 32 ≤ a * 10 + d → read_from a (drop i s) ≡ Bad
+  read_over l g d e o = read_more l g d e ∙ read_big (a * 10 + d) (drop (i + 1) s) o
+
 -- ---- lines
 
 pub line_long : (s : List ℕ) → max_line < length s → line_of s ≡ TooLong
@@ -198,3 +203,22 @@ line_few s h g = rw (le-ltb max_line (length s) h, ne_eqb (count_of comma_byte s
 pub line_three : (s : List ℕ) → length s ≤ max_line → count_of comma_byte s ≡ 2 → line_of s ≡ three_of (num_of (field_of s 0)) (num_of (field_of s 1)) (num_of (field_of s 2))
 unfolding line_of
 line_three s h g = rw (le-ltb max_line (length s) h, g)
+
+-- ---- what each function goes by
+
+pub ruleset first_comma_laws = (index_hit, index_miss, index_end)
+
+-- each test of the code is one of the definition's
+pub ruleset is_quoted_laws = (quoted_short, quoted_bare, quoted_end)
+
+-- a quoted part has room for its two quotes (cut_room), and within them lies the definition's text (inner_part)
+pub ruleset cut_laws = (unquoted_yes, unquoted_no, cut_room, inner_part)
+
+pub ruleset commas_laws = (count_step, count_end, one_at_most)
+
+-- a sum beyond 32 bits never comes back (read_over)
+pub ruleset number_laws = (num_none, num_some, read_low, read_high, read_more, read_over, read_end)
+
+-- each way out is one case of the definition: too long (line_long), not two commas (line_few), three fields
+-- (line_three)
+pub ruleset read_line_laws = (line_long, line_few, line_three)

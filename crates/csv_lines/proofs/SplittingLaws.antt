@@ -65,3 +65,7 @@ take_least l n k e = go (leb n (length l)) refl
         let all : length l ≤ k = omega (arith, e, leb-false n (length l) f) in
         let more : length l ≤ n = omega (arith, leb-false n (length l) f) in
         take_all k l all ∙ sym (take_all n l more)
+
+-- ---- what chopped goes by: the last byte that is held; what is held is the same up to the line's length (take_least)
+
+pub ruleset chopped_laws = (chop_held, chop_kept, take_least)

@@ -1,5 +1,5 @@
 -- Laws of numbers in decimal, of fields and of lines.
--- put_number goes by decimal-one and decimal-more.
+-- put_number goes by decimal_one and decimal_more.
 use mathlib.Core.Path.{◌≡◌, refl, sym, ap, ◌∙◌}
 use mathlib.Core.Bool.{Bool, true, false}
 use mathlib.Core.List.{List, [], ◌∷◌, ◌++◌, append_assoc, append-nil}
@@ -157,3 +157,19 @@ module _ (n : ℕ) (ns : List ℕ) where
       sets_sets (sets l at (decimal n)) p q (fields_text ns) (lf_byte ∷ []) f
       ∙ sets_sets l at p (decimal n) (fields_text ns ++ lf_byte ∷ []) e
       ∙ ap (sets l at) (sym line-parts)
+
+-- ---- what each function goes by
+
+-- by recursion on n: a number below ten is its one digit (put_one), any other its digits but the last, and then the
+-- last (put_more)
+pub ruleset put_number_laws = (length_one, length_more, put_one, put_more)
+
+-- a comma, and then the digits of the number, which is the same of 64 bits (put_comma); they are few (field_short)
+pub ruleset put_field_laws = (field_short, put_comma)
+
+-- one field more is fields_put
+pub ruleset put_fields_laws = (fields_put, fields_length, fields_end)
+
+-- the number, its fields and the LF make the line (line_writes); there is room for each: the number is short
+-- (number_short), and put_fields tells how far it writes
+pub ruleset put_numbers_laws = (number_short, line_length, line_writes)

@@ -4,6 +4,7 @@ ghost use Rattle.std.specs.Prelude.{◌≡◌, ◌+◌, ◌-◌, ◌≤◌, leng
 ghost use Rattle.csv_lines.specs.Reading.{comma_byte, index_of, after_comma, from_field, quoted, unquoted, quote_bytes, field_of, field_start};
 
 // The place of the first comma, or the length.
+#[tactic(auto, using(crate::proofs::ReadingLaws::first_comma_laws))]
 fn first_comma(s: &[u8]) -> usize
     ensures { (result ≡ index_of comma_byte s.now) × (result ≤ length s.now) }
 {
@@ -53,6 +54,7 @@ fn end_of(line: &[u8], a: usize) -> usize
     a + first_comma(&line[a..])
 }
 
+#[tactic(auto, using(crate::proofs::ReadingLaws::is_quoted_laws))]
 fn is_quoted(s: &[u8]) -> bool
     ensures { result ≡ quoted s.now }
 {
@@ -67,6 +69,7 @@ fn is_quoted(s: &[u8]) -> bool
 }
 
 // The part from a to e, quotes left off.
+#[tactic(auto, using(crate::proofs::ReadingLaws::cut_laws))]
 fn cut(line: &[u8], a: usize, e: usize) -> &[u8]
     requires { (a ≤ e) × (e ≤ length line.now) }
     ensures { (result.now ≡ unquoted (take (e - a) (drop a line.now)))
@@ -79,8 +82,8 @@ fn cut(line: &[u8], a: usize, e: usize) -> &[u8]
     &line[a..e]
 }
 
-// Field k of the line, counted from 0, quotes left off. It is that part of the caller's own line: the promise gives its bytes
-// and its address. A field that the line does not have is the empty part at the line's end.
+// Field k of the line, counted from 0, quotes left off. It is that part of the caller's own line: the promise gives its
+// bytes and its address. A field that the line does not have is the empty part at the line's end.
 pub fn field(line: &[u8], k: usize) -> &[u8]
     ensures { (result.now ≡ field_of line.now k)
         × (result.ref_ptr.0 ≡ line.entry.ref_ptr.0)

@@ -14,6 +14,7 @@ fn wide(x: u8) -> u64
 }
 
 // The number that the digits make; Bad where there is no digit, a byte that is none, or a number beyond 32 bits.
+#[tactic(auto, using(crate::proofs::ReadingLaws::number_laws))]
 pub fn number(s: &[u8]) -> Num
     ensures { result ≡ num_of s.now }
 {

@@ -19,6 +19,7 @@ fn one_if_comma(x: u8) -> usize
 }
 
 // How many commas the line has.
+#[tactic(auto, using(crate::proofs::ReadingLaws::commas_laws))]
 fn commas(s: &[u8]) -> usize
     ensures { result ≡ count_of comma_byte s.now }
 {
@@ -48,6 +49,7 @@ fn three(a: Num, b: Num, c: Num) -> Line
 
 // The three numbers of the line. A line over 64 bytes is TooLong whatever it holds; any other that is not three numbers
 // joined by commas is NotThree.
+#[tactic(auto, using(crate::proofs::ReadingLaws::read_line_laws))]
 pub fn read_line(line: &[u8]) -> Line
     ensures { result ≡ line_of line.now }
 {

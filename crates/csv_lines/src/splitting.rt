@@ -15,8 +15,8 @@ pub fn least(a: usize, b: usize) -> usize
     if a < b { a } else { b }
 }
 
-// Puts the bytes behind those that are held, as far as there is room, and answers how many are held then. No more are held than
-// the line has bytes, whatever number is given.
+// Puts the bytes behind those that are held, as far as there is room, and answers how many are held then. No more are
+// held than the line has bytes, whatever number is given.
 pub fn hold(line: &mut [u8], held: usize, bytes: &[u8]) -> usize
     ensures { (result ≤ length line.new) × (take result line.new ≡ take (length line.old) (take held line.old ++ bytes.now)) }
 {
@@ -30,8 +30,9 @@ pub fn hold(line: &mut [u8], held: usize, bytes: &[u8]) -> usize
     held + n
 }
 
-// How many of the held bytes are the line, once its LF is there: a CR before that is part of the line's end. No more are held
-// than the line has bytes, whatever number is given.
+// How many of the held bytes are the line, once its LF is there: a CR before that is part of the line's end. No more
+// are held than the line has bytes, whatever number is given.
+#[tactic(auto, using(crate::proofs::SplittingLaws::chopped_laws), unfolding(crate::specs::Splitting::chop))]
 pub fn chopped(line: &[u8], held: usize) -> usize
     ensures { (result ≤ held) × (take result line.now ≡ chop (take held line.now)) }
 {

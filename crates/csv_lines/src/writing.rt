@@ -27,6 +27,7 @@ fn put_byte(out: &mut [u8], at: usize, x: u8) -> usize
 }
 
 // The decimal digits of n.
+#[tactic(auto, using(crate::proofs::WritingLaws::put_number_laws))]
 fn put_number(out: &mut [u8], at: usize, n: u64) -> usize
     requires { at + length (decimal n) ≤ length out.old }
     ensures { (result ≡ at + length (decimal n)) × (out.new ≡ sets out.old at (decimal n)) }
@@ -39,6 +40,7 @@ fn put_number(out: &mut [u8], at: usize, n: u64) -> usize
 }
 
 // A comma and the number n, where there is room for the longest.
+#[tactic(auto, using(crate::proofs::WritingLaws::put_field_laws))]
 fn put_field(out: &mut [u8], at: usize, n: u32) -> usize
     requires { at + field_bytes ≤ length out.old }
     ensures { (result ≤ at + field_bytes) × (result ≡ at + length (field_text n)) × (out.new ≡ sets out.old at (field_text n)) }
@@ -48,6 +50,7 @@ fn put_field(out: &mut [u8], at: usize, n: u32) -> usize
 }
 
 // Each of the numbers after a comma, where there is room for the longest.
+#[tactic(auto, using(crate::proofs::WritingLaws::put_fields_laws))]
 fn put_fields(out: &mut [u8], at: usize, fields: &[u32]) -> usize
     requires { at + length fields.now * field_bytes ≤ length out.old }
     ensures { (result ≤ at + length fields.now * field_bytes) × (result ≡ at + length (fields_text fields.now)) × (out.new ≡ sets out.old at (fields_text fields.now)) }
@@ -62,6 +65,7 @@ fn put_fields(out: &mut [u8], at: usize, fields: &[u32]) -> usize
 }
 
 // A line of a number and fields, with its LF, where there is room for the longest.
+#[tactic(auto, using(crate::proofs::WritingLaws::put_numbers_laws))]
 fn put_numbers(out: &mut [u8], at: usize, number: u64, fields: &[u32]) -> usize
     requires { at + number_bytes + length fields.now * field_bytes + 1 ≤ length out.old }
     ensures { (result ≤ at + number_bytes + length fields.now * field_bytes + 1) × (result ≡ at + length (ended (number ∷ fields.now))) × (out.new ≡ sets out.old at (ended (number ∷ fields.now))) }
@@ -72,9 +76,10 @@ fn put_numbers(out: &mut [u8], at: usize, number: u64, fields: &[u32]) -> usize
 }
 
 // An output line where there is room for LINE_BYTES. Elsewhere nothing is written, and what is answered is left open.
+#[tactic(auto, unfolding(crate::specs::Writing::line_text))]
 pub fn put_line(out: &mut [u8], at: usize, line: Output) -> usize
-    ensures upper_bound { at + line_bytes ≤ length out.old → (result ≤ at + line_bytes) × (result ≡ at + length (line_text line)) × (out.new ≡ sets out.old at (line_text line)) }
-    ensures out_unchanged { length out.old < at + line_bytes → out.new ≡ out.old }
+    ensures with_room { at + line_bytes ≤ length out.old → (result ≤ at + line_bytes) × (result ≡ at + length (line_text line)) × (out.new ≡ sets out.old at (line_text line)) }
+    ensures without_room { length out.old < at + line_bytes → out.new ≡ out.old }
 {
     if at > out.len() {
         return at;
