@@ -1,4 +1,5 @@
--- A field's bytes and its place agree, as they are defined: from that place on, the line holds those bytes (field-part).
+-- A field's bytes and its place agree, as they are defined: from that place on, the line holds those bytes
+-- (field_part).
 use mathlib.Core.Path.{◌≡◌, refl, sym, ap, ◌∙◌}
 use mathlib.Core.Bool.{Bool, true, false, cond}
 use mathlib.Core.List.{List, [], ◌∷◌}

@@ -1,4 +1,4 @@
--- A number written in decimal is read back (decimal-read): its digits are digits, and they make the number again.
+-- A number written in decimal is read back (decimal_read): its digits are digits, and they make the number again.
 use mathlib.Core.Path.{◌≡◌, refl, ◌∙◌}
 use mathlib.Core.Bool.{Bool, true, false, ◌&&◌}
 use mathlib.Core.List.{List, [], ◌∷◌, ◌++◌}

@@ -1,4 +1,5 @@
--- Laws of writes: `sets l at u` is the list l with u stored from the place `at` on. Writes one after the other are one write.
+-- Laws of writes: `sets l at u` is the list l with u stored from the place `at` on. Writes one after the other are one
+-- write.
 use mathlib.Core.Path.{◌≡◌, sym}
 use mathlib.Core.List.{List, [], ◌∷◌, ◌++◌}
 use Prim.Native.Nat.{ℕ, suc, ◌+◌}

@@ -1,5 +1,5 @@
--- How a line is read: its fields, a field as a number, a line as three numbers (document 01, 'Lines that programs read and
--- write', and Paper 1). A line is the list of its bytes; its end is no part of it.
+-- How a line is read: its fields, a field as a number, a line as three numbers (document 01, 'Lines that programs read
+-- and write', and Paper 1). A line is the list of its bytes; its end is no part of it.
 use Rattle.std.specs.Prelude.{ℕ, zero, suc, ◌+◌, ◌-◌, ◌*◌, ◌^◌, Bool, true, cond, ◌&&◌, List, [], ◌∷◌, leb, ltb, eqb, length, get_or, take, drop}
 use Rattle.csv_lines.specs.declared.Num.{Num}
 use Rattle.csv_lines.specs.declared.Num.TheVariants.{Bad, Is}
@@ -32,8 +32,8 @@ lf_byte = 10
 abbrev pub max_line : ℕ
 max_line = 64
 
--- ---- fields: 'Fields are joined by commas'. A number holds no comma, so a comma inside quotes is treated as any other:
--- a line that has one is not three numbers either way.
+-- ---- fields: 'Fields are joined by commas'. A number holds no comma, so a comma inside quotes is treated as any
+-- other: a line that has one is not three numbers either way.
 
 -- the place of the first byte b, or the length where there is none
 unfoldable pub index_of : ℕ → List ℕ → ℕ

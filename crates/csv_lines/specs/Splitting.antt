@@ -1,5 +1,5 @@
--- The lines of an input (document 01, 'Lines that programs read and write'): 'A line ends in CR LF, LF or the end of the input; the
--- end is no part of it, and nothing after the last LF is no line.'
+-- The lines of an input (document 01, 'Lines that programs read and write'): 'A line ends in CR LF, LF or the end of
+-- the input; the end is no part of it, and nothing after the last LF is no line.'
 use Rattle.std.specs.Prelude.{ℕ, ◌+◌, cond, List, [], ◌∷◌, ◌++◌, eqb}
 use Rattle.csv_lines.specs.Reading.{cr_byte, lf_byte, max_line}
 

@@ -39,7 +39,7 @@ joined [] = []
 joined (n ∷ []) = decimal n
 joined (n ∷ m ∷ ns) = decimal n ++ comma_byte ∷ joined (m ∷ ns)
 
--- a field as it stands after another, and as many as there are: what a line's number is followed by (joined-fields)
+-- a field as it stands after another, and as many as there are: what a line's number is followed by (joined_fields)
 abbrev pub field_text : ℕ → List ℕ
 field_text n = comma_byte ∷ decimal n
 
