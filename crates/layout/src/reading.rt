@@ -167,7 +167,6 @@ fn board_from(w: &[u32]) -> Board
 
 // The board in the first words. Words that stand for no board, too few of them too, are read as one that is not well
 // formed.
-#[tactic(auto, unfolding(crate::specs::Standing::decoded))]
 pub fn decode(w: &[u32]) -> Board
     ensures { result ≡ decoded w.now }
 {

@@ -204,7 +204,6 @@ fn put_cells(w: &mut [u32], cells: [Cell; CELLS])
     }
 }
 
-#[tactic(auto, unfolding(crate::specs::Layout::encoded))]
 fn put_board(w: &mut [u32], b: Board)
     requires { board_words ≤ length w.old }
     ensures { (w.new ≡ encoded w.old b) × (decoded w.new ≡ b) }
