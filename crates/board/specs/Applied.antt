@@ -11,7 +11,7 @@ use Rattle.decisions.specs.declared.Decision.TheVariants.{Refuse, Accept}
 use Rattle.board.specs.declared.Board.{Board}
 use Rattle.board.specs.declared.Answer.{Answer}
 use Rattle.board.specs.Boards.{with_node, with_console, with_frame, with_row}
-use Rattle.board.specs.Answers.{answerWith, refuse}
+use Rattle.board.specs.Answers.{answer_with, refuse}
 
 -- a frame goes into the cell of console c and node k, or into 'all n cells' of console c, or the cells stay
 unfoldable pub with_sent : Board → ℕ → ℕ → Sent → Board
@@ -28,4 +28,4 @@ with_part b c k (NodeTo y) = with_node b k y
 -- what was decided of console c and node k, done on the board; refused, 'the board comes back unchanged'
 unfoldable pub applied : Board → ℕ → ℕ → Decision → Answer
 applied b c k (Refuse r) = refuse b r
-applied b c k (Accept d) = answerWith d.compared d.outcome (with_part (with_sent b c k d.sent) c k d.part)
+applied b c k (Accept d) = answer_with d.compared d.outcome (with_part (with_sent b c k d.sent) c k d.part)

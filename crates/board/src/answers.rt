@@ -1,6 +1,6 @@
 // The ways to answer a step.
 ghost use Rattle.std.specs.Prelude.{◌≡◌};
-ghost use Rattle.board.specs.Answers.{answerWith, answer, refuse};
+ghost use Rattle.board.specs.Answers.{answer_with, answer, refuse};
 
 use crate::{Answer, Board};
 use parts::{Compared, Outcome};
@@ -8,7 +8,7 @@ use parts::{Compared, Outcome};
 impl Answer {
     // A step that was done, with how the reply that it took in compared (none: it took none in) and the next board.
     pub(crate) fn accepted_with(compared: Compared, outcome: Outcome, board: Board) -> Answer
-        ensures { result ≡ answerWith compared outcome board }
+        ensures { result ≡ answer_with compared outcome board }
     {
         Answer {
             outcome: outcome,

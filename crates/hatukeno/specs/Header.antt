@@ -5,7 +5,7 @@ use Rattle.parts.specs.declared.Tag.{Tag}
 use Rattle.parts.specs.declared.Outcome.TheVariants.{Done, Handed, Finished}
 use Rattle.parts.specs.declared.Compared.TheVariants.{Lower, Same, Higher}
 use Rattle.board.specs.declared.Board.{Board}
-use Rattle.board.specs.Answers.{answer, answerWith, refuse}
+use Rattle.board.specs.Answers.{answer, answer_with, refuse}
 use Rattle.board.specs.Boards.{no_board}
 use Rattle.board.specs.Deliver.{deliver}
 use Rattle.board.specs.Steps.{begin_write}
@@ -23,9 +23,9 @@ as_written =
     ∷ answer_fields (answer Done no_board)
     ∷ answer_fields (answer Handed no_board)
     ∷ answer_fields (answer (Finished tag 42) no_board)
-    ∷ answer_fields (answerWith Lower (Finished tag 42) no_board)
-    ∷ answer_fields (answerWith Same (Finished tag 42) no_board)
-    ∷ answer_fields (answerWith Higher (Finished tag 42) no_board)
+    ∷ answer_fields (answer_with Lower (Finished tag 42) no_board)
+    ∷ answer_fields (answer_with Same (Finished tag 42) no_board)
+    ∷ answer_fields (answer_with Higher (Finished tag 42) no_board)
     ∷ []
 
 -- what the header says

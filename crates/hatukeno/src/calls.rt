@@ -18,6 +18,7 @@ use parts::{ConsoleId, NodeId, Release};
 pub(crate) const ANSWER_WORDS: usize = 6;
 
 // Writes the answer into six words from p on. The caller has seen that they are there.
+#[tactic(auto, unfolding(crate::specs::Calls::put_answer, crate::specs::Calls::answer_fields))]
 pub(crate) fn put_answer(s: &mut [u32], p: usize, a: Answer)
     requires { p + answer_words ≤ length s.old }
     ensures { s.new ≡ put_answer s.old p a }

@@ -61,6 +61,7 @@ fn keep_after(w: &mut [u32], x: Midway)
 
 // The step at place i of the list, put to the board. The caller has seen that the list reaches so far, and knows whether the board is well
 // formed.
+#[tactic(auto, unfolding(crate::specs::Lists::step_at))]
 fn step_at(q: &[u32], i: usize, b: Board, formed: bool) -> Answer
     requires step_words_in_bounds { i * step_words + step_words ≤ length q.now }
     requires formed_value { formed ≡ well_formed b }

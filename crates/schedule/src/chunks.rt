@@ -104,6 +104,7 @@ fn take_last(s: Position, line: &[u8], out: &mut [u8]) -> usize
 }
 
 // A run before its first byte: a board of one node and one console.
+#[tactic(auto, unfolding(crate::specs::Chunks::started))]
 pub fn start() -> Position
     ensures { result ≡ started }
 {

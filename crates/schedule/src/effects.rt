@@ -20,6 +20,7 @@ pub(crate) struct LineRun {
 }
 
 // The number of the line after line n.
+#[tactic(auto, unfolding(crate::specs::Schedule::next_number))]
 pub(crate) fn next_number(n: u64) -> u64
     ensures { result ≡ next_number n }
 {
@@ -30,6 +31,7 @@ pub(crate) fn next_number(n: u64) -> u64
 }
 
 // The answer to a line. The caller knows whether the board is well formed.
+#[tactic(auto, unfolding(crate::specs::Schedule::answer_of))]
 fn answer_to(line: &[u8], b: Board, formed: bool) -> Answer
     requires { formed ≡ well_formed b }
     ensures { result ≡ answer_to line.now b }
@@ -43,6 +45,7 @@ fn answer_to(line: &[u8], b: Board, formed: bool) -> Answer
 }
 
 // A refused line leaves the board as it was.
+#[tactic(auto, unfolding(crate::specs::Schedule::board_after))]
 fn board_after(b: Board, a: Answer) -> Board
     ensures { result ≡ board_after b a }
 {
@@ -55,6 +58,7 @@ fn board_after(b: Board, a: Answer) -> Board
 }
 
 // The output line of an answer.
+#[tactic(auto, unfolding(crate::specs::Schedule::line_output))]
 fn output_of(number: u64, a: Answer) -> Output
     ensures { result ≡ line_output number a }
 {
@@ -68,6 +72,7 @@ fn output_of(number: u64, a: Answer) -> Output
 
 // Puts the line with this number to the board, and its output line into out at the place at. The caller has seen that an output
 // line has room there, and knows whether the board is well formed.
+#[tactic(auto, unfolding(crate::specs::Schedule::effect_of))]
 pub(crate) fn run_line(
     b: Board,
     formed: bool,

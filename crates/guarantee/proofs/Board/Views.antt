@@ -31,7 +31,7 @@ use Rattle.decisions.specs.declared.Decision.{Decision}
 use Rattle.decisions.specs.declared.Decision.TheVariants.{Refuse}
 use Rattle.decisions.specs.declared.Part.TheVariants.{NodeTo}
 use Rattle.decisions.specs.declared.Sent.TheVariants.{Keep}
-use Rattle.board.specs.Answers.{answer, answerWith, refuse}
+use Rattle.board.specs.Answers.{answer, answer_with, refuse}
 use Rattle.board.specs.Boards.{console_at, frame_at, fresh_board, node_at, with_console, with_frame, with_node, with_row}
 use Rattle.board.specs.Applied.{applied, with_part, with_sent}
 use Rattle.board.specs.Deliver.{deliver}
@@ -66,7 +66,7 @@ unfoldable pub turned : Board → ℕ → Console → Board
 turned b c x = with_console (with_row b c (Put (tells c x).best (tells c x).value)) c (tells c x)
 
 unfoldable pub finished : Compared → Board → ℕ → ℕ → Console → Answer
-finished how b c k x = answerWith how (Finished x.best x.value) (with_console (with_frame b c k Nothing) c (rests Idle x))
+finished how b c k x = answer_with how (Finished x.best x.value) (with_console (with_frame b c k Nothing) c (rests Idle x))
 
 -- a delivery in range that no question refused
 pub data Delivered (b : Board) (c k : ℕ) : Answer → Type 0 where
@@ -75,11 +75,11 @@ pub data Delivered (b : Board) (c k : ℕ) : Answer → Type 0 where
   put : {u : Tag} {v : ℕ} → frame_at b c k ≡ Put u v → Delivered b c k (answer Handed (with_node (with_frame b c k Ack) k (taken (node_at b k) u v)))
   hear : {u : Tag} {v : ℕ} → frame_at b c k ≡ Reply u v → is_asking (console_at b c).state ≡ true → member (console_at b c).answered k ≡ false
       → size (insert (console_at b c).answered k) < ask_size b.setup
-      → Delivered b c k (answerWith (compared u (console_at b c).best) Heard (with_console (with_frame b c k Nothing) c (hears (console_at b c) k u v)))
+      → Delivered b c k (answer_with (compared u (console_at b c).best) Heard (with_console (with_frame b c k Nothing) c (hears (console_at b c) k u v)))
   turn : {u : Tag} {v : ℕ} → frame_at b c k ≡ Reply u v → is_asking (console_at b c).state ≡ true → member (console_at b c).answered k ≡ false
       → ask_size b.setup ≤ size (insert (console_at b c).answered k)
       → (writes (console_at b c).state ≡ true → (hears (console_at b c) k u v).best.ts < max_ts)
-      → Delivered b c k (answerWith (compared u (console_at b c).best) Turned (turned b c (hears (console_at b c) k u v)))
+      → Delivered b c k (answer_with (compared u (console_at b c).best) Turned (turned b c (hears (console_at b c) k u v)))
   finish-early : {u : Tag} {v : ℕ} → frame_at b c k ≡ Reply u v → is_asking (console_at b c).state ≡ true → member (console_at b c).answered k ≡ false
       → ask_size b.setup ≤ size (insert (console_at b c).answered k)
       → finishes_early b.setup (hears (console_at b c) k u v) ≡ true

@@ -19,7 +19,7 @@ use Rattle.parts.specs.declared.Setup.{Setup}
 use Rattle.parts.specs.declared.Tag.{Tag}
 use Rattle.decisions.specs.Changes.{hears, next_tag, tells}
 use Rattle.decisions.specs.Deliver.{finishes_early}
-use Rattle.board.specs.Answers.{answerWith}
+use Rattle.board.specs.Answers.{answer_with}
 use Rattle.board.specs.Boards.{console_at, frame_at, node_at, with_console, with_frame, with_row}
 use Rattle.board.specs.declared.Board.{Board}
 use Rattle.guarantee.proofs.Laws.Sets.{insert_small}
@@ -87,7 +87,7 @@ module _ {K : TagKind} {σ : Setup} {b : Board} {c k : ℕ} (d : Delivery K σ b
 
   -- ---- heard
 
-  pub hear_effect : size (insert (console_at b c).answered k) < ask_size b.setup → Effect K σ c b (answerWith (compared u (console_at b c).best) Heard (with_console (with_frame b c k Nothing) c x₁))
+  pub hear_effect : size (insert (console_at b c).answered k) < ask_size b.setup → Effect K σ c b (answer_with (compared u (console_at b c).best) Heard (with_console (with_frame b c k Nothing) c x₁))
   unfolding hears
   hear_effect few = record {
     ok = console_ok_lem d x₁ heard-kind (hears_ok σ (console_at b c) k u v (five d) d.k_n p was-waiting un (omega (arith, few, ap ask_size d.ok.shape.setup_is))) hear-row;
@@ -175,7 +175,7 @@ module _ {K : TagKind} {σ : Setup} {b : Board} {c k : ℕ} (d : Delivery K σ b
     unfolding node_at with_console with_row turned
     turn-ups j = refl
 
-    pub turn_effect : Effect K σ c b (answerWith (compared u (console_at b c).best) Turned (turned b c x₁))
+    pub turn_effect : Effect K σ c b (answer_with (compared u (console_at b c).best) Turned (turned b c x₁))
     turn_effect = record {
       ok = turn-ok;
       beside = turn-side;
