@@ -38,6 +38,7 @@ pub(crate) fn put_answer(s: &mut [u32], p: usize, a: Answer)
 }
 
 // Writes the next board back, unless the step was refused. The caller has seen that the words reach for a board.
+#[tactic(auto, unfolding(crate::specs::Calls::kept))]
 fn keep(w: &mut [u32], a: Answer)
     requires { board_words ≤ length w.old }
     ensures { w.new ≡ kept w.old a }
@@ -50,6 +51,7 @@ fn keep(w: &mut [u32], a: Answer)
 }
 
 // What a call returns, by the lengths of what is lent to it.
+#[tactic(auto, unfolding(crate::specs::Calls::short_by))]
 fn short_by(w: usize, s: usize) -> u32
     ensures { result ≡ short_by w s }
 {

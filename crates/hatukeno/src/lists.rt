@@ -18,6 +18,7 @@ use verbs::step_known;
 const STEP_WORDS: usize = 3;
 
 // What the call returns, by the lengths of what is lent to it.
+#[tactic(auto, unfolding(crate::specs::Lists::list_short_by))]
 fn list_short_by(w: usize, q: usize, s: usize) -> u32
     ensures { result ≡ list_short_by w q s }
 {
@@ -34,6 +35,7 @@ fn list_short_by(w: usize, q: usize, s: usize) -> u32
 }
 
 // A refused step leaves the board as it was.
+#[tactic(auto, unfolding(crate::specs::Lists::go_on))]
 fn go_on(x: Midway, a: Answer) -> Midway
     ensures { result ≡ go_on x a }
 {
@@ -49,6 +51,7 @@ fn go_on(x: Midway, a: Answer) -> Midway
 }
 
 // Writes the last board back, unless every step was refused. The caller has seen that the words reach for a board.
+#[tactic(auto, unfolding(crate::specs::Lists::kept_after))]
 fn keep_after(w: &mut [u32], x: Midway)
     requires { board_words ≤ length w.old }
     ensures { w.new ≡ kept_after w.old x }
