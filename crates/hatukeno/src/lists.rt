@@ -66,8 +66,8 @@ fn keep_after(w: &mut [u32], x: Midway)
 // formed.
 #[tactic(auto, unfolding(crate::specs::Lists::step_at))]
 fn step_at(q: &[u32], i: usize, b: Board, formed: bool) -> Answer
-    requires step_words_in_bounds { i * step_words + step_words ≤ length q.now }
-    requires formed_value { formed ≡ well_formed b }
+    requires reaches { i * step_words + step_words ≤ length q.now }
+    requires known { formed ≡ well_formed b }
     ensures { result ≡ step_at q.now i b }
 {
     step_known(

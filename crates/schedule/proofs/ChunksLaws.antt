@@ -1,20 +1,19 @@
 -- Laws of one line of a chunk: where the run stands after the bytes up to its LF, and after that.
-use Prim.Native.Nat.{ℕ, suc, ◌+◌, ◌-◌, ◌≤◌, ◌<◌}
+use Prim.Native.Nat.{ℕ, zero, suc, ◌+◌, ◌-◌, ◌≤◌, ◌<◌}
 use mathlib.Core.Bool.{Bool, true, false}
 use mathlib.Core.List.{List, [], ◌∷◌, ◌++◌, append_assoc, append-nil}
 use mathlib.Core.Path.{◌≡◌, refl, sym, ap, ◌∙◌}
 use native.Mathlib.Omega.{arith}
-use borrow.Author.Tests.{eqb-true}
+use borrow.Author.Tests.{eqb-true, eq-eqb}
 use lib.Dec.{eqb}
 use lib.ListN.{length, take, drop, get_or, length-take, length-drop, length-append}
-use lib.Seq.{take_all, take-length, take-suc, take-add, sets}
+use lib.Seq.{take_all, take-suc, take-add, sets}
 use Rattle.board.specs.declared.Board.{Board}
 use Rattle.decisions.specs.Questions.{guarded}
 use Rattle.board.specs.Boards.{fresh_board}
 use Rattle.board.specs.Steps.{smallest, fresh}
 use Rattle.well_formed.specs.Clauses.{nodes_allowed, consoles_allowed}
-use Rattle.bytes.specs.Bytes.{index_of, index_after, slice}
-use Rattle.csv_lines.specs.Reading.{lf_byte}
+use Rattle.csv_lines.specs.Reading.{index_of, lf_byte}
 use Rattle.csv_lines.specs.Splitting.{chop, held_bytes}
 use Rattle.csv_lines.proofs.SetsLaws.{sets_sets}
 use Rattle.schedule.specs.declared.Position.{Position}
@@ -28,11 +27,11 @@ abbrev with_held : Session → List ℕ → Session
 with_held s l = record { held = l; board = s.board; number = s.number }
 
 index_miss : (x : ℕ) (t : List ℕ) → eqb x lf_byte ≡ false → index_of lf_byte (x ∷ t) ≡ suc (index_of lf_byte t)
-unfolding index_of index_after
+unfolding index_of
 index_miss x t e = rw e
 
 index_hit : (x : ℕ) (t : List ℕ) → eqb x lf_byte ≡ true → index_of lf_byte (x ∷ t) ≡ 0
-unfolding index_of index_after
+unfolding index_of
 index_hit x t e = rw e
 
 -- the byte at the place of the first LF
@@ -44,6 +43,26 @@ at_index (x ∷ t) h = go (at_index t) (eqb x lf_byte) refl
     go : (index_of lf_byte t < length t → get_or t (index_of lf_byte t) 0 ≡ lf_byte) → (z : Bool) → eqb x lf_byte ≡ z → get_or (x ∷ t) (index_of lf_byte (x ∷ t)) 0 ≡ lf_byte
     go ih true e = rw (index_hit x t e) (eqb-true x lf_byte e)
     go ih false e = rw (index_miss x t e) (ih (omega (arith, h, index_miss x t e)))
+
+-- no byte is an LF: the place is the length
+pub no_lf : (t : List ℕ) → ((k : ℕ) → k < length t → get_or t k 0 ≡ lf_byte → ⊥) → index_of lf_byte t ≡ length t
+unfolding index_of
+no_lf [] none = refl
+no_lf (x ∷ t) none = go (no_lf t (λ k l h. none (suc k) (omega (arith, l)) h)) (eqb x lf_byte) refl
+  where
+    go : index_of lf_byte t ≡ length t → (z : Bool) → eqb x lf_byte ≡ z → index_of lf_byte (x ∷ t) ≡ length (x ∷ t)
+    go ih true e = absurd (none 0 (omega arith) (eqb-true x lf_byte e))
+    go ih false e = index_miss x t e ∙ ap suc ih
+
+-- the byte at place k is one, and none before it is
+pub first_lf : (t : List ℕ) (k : ℕ) → k < length t → ((j : ℕ) → j < k → get_or t j 0 ≡ lf_byte → ⊥) → get_or t k 0 ≡ lf_byte → index_of lf_byte t ≡ k
+first_lf [] k l none h = absurd (omega (arith, l))
+first_lf (x ∷ t) zero l none h = index_hit x t (eq-eqb x lf_byte h)
+first_lf (x ∷ t) (suc k) l none h = go (first_lf t k (omega (arith, l)) (λ j m g. none (suc j) (omega (arith, m)) g) h) (eqb x lf_byte) refl
+  where
+    go : index_of lf_byte t ≡ k → (z : Bool) → eqb x lf_byte ≡ z → index_of lf_byte (x ∷ t) ≡ suc k
+    go ih true e = absurd (none 0 (omega arith) (eqb-true x lf_byte e))
+    go ih false e = index_miss x t e ∙ ap suc ih
 
 abbrev Quiet : List ℕ → Type 0
 Quiet t = (s : Session) → length s.held ≤ held_bytes → (after_bytes s (take (index_of lf_byte t) t) ≡ with_held s (take held_bytes (s.held ++ take (index_of lf_byte t) t))) × (text_of s (take (index_of lf_byte t) t) ≡ [])
@@ -74,13 +93,9 @@ quiet (x ∷ t) s h = quiet_more x t (quiet t) (eqb x lf_byte) refl s h
 
 -- ---- a line of the chunk, from place i on: e is the place of its LF, or the chunk's end
 
-module _ (s : Session) (chunk : List ℕ) (i e : ℕ) (few : length s.held ≤ held_bytes) (inside : i ≤ length chunk) (found : e ≡ i + index_of lf_byte (slice i (length chunk) chunk)) where
-  rest-is : slice i (length chunk) chunk ≡ drop i chunk
-  unfolding slice
-  rest-is = ap (drop i) (take-length chunk)
-
+module _ (s : Session) (chunk : List ℕ) (i e : ℕ) (few : length s.held ≤ held_bytes) (inside : i ≤ length chunk) (found : e ≡ i + index_of lf_byte (drop i chunk)) where
   index_is : index_of lf_byte (drop i chunk) ≡ e - i
-  index_is = ap (index_of lf_byte) (sym rest-is) ∙ omega (arith, found)
+  index_is = omega (arith, found)
 
   -- what the bytes before e leave
   abbrev Before : Session

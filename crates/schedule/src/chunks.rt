@@ -1,7 +1,8 @@
 // A run over an input in chunks. Each chunk, the bytes held of a line and the output stand in lent memory.
-ghost use Rattle.std.specs.Prelude.{◌≡◌, ◌+◌, ◌*◌, ◌<◌, ◌≤◌, length, take};
+ghost use Rattle.std.specs.Prelude.{◌≡◌, ◌+◌, ◌*◌, ◌<◌, ◌≤◌, length, take, drop};
 ghost use Rattle.std.proofs.lemmas.List.Edits.{sets};
 ghost use Rattle.board.specs.WellFormed.{well_formed};
+ghost use Rattle.csv_lines.specs.Reading.{index_of, lf_byte};
 ghost use Rattle.csv_lines.specs.Splitting.{held_bytes};
 ghost use Rattle.csv_lines.specs.Writing.{line_bytes};
 ghost use Rattle.schedule.specs.Chunks.{started, session_of, part, last_text, Consumed};
@@ -9,20 +10,31 @@ ghost use Rattle.schedule.specs.Chunks.{started, session_of, part, last_text, Co
 use crate::Position;
 use crate::effects::{next_number, run_line};
 use board::Board;
-use bytes::scan::find;
 use csv_lines::LINE_BYTES;
 use csv_lines::splitting::{HELD_BYTES, chopped, hold, least};
+use memchr::memchr;
+
+// The place of the first LF from place at on, or the chunk's end.
+fn line_end(chunk: &[u8], at: usize) -> usize
+    requires { at ≤ length chunk.now }
+    ensures { (result ≡ at + index_of lf_byte (drop at chunk.now)) × (result ≤ length chunk.now) }
+{
+    match memchr(b'\n', &chunk[at..]) {
+        Some(i) => at + i,
+        None => chunk.len(),
+    }
+}
 
 // Takes the next line of the chunk, or what there is of it. The caller has seen that there is a byte left, that the line held has
 // its HELD_BYTES, and that an output line has room, and knows whether the board is well formed.
 fn take_line(s: Position, formed: bool, line: &mut [u8], chunk: &[u8], out: &mut [u8]) -> Position
-    requires consumed_in_bounds { (s.consumed < length chunk.now) × (length line.old ≡ held_bytes) × (s.held ≤ held_bytes) × (s.wrote + line_bytes ≤ length out.old) }
-    requires formed_value { formed ≡ well_formed s.board }
-    ensures consumed_lt_consumed { (s.consumed < result.consumed) × (result.consumed ≤ length chunk.now) × (result.held ≤ held_bytes) × (result.wrote ≤ s.wrote + line_bytes) }
-    ensures consumed { Consumed s.consumed s.wrote s line.old out.old (part s.consumed result.consumed chunk.now) result line.new out.new }
+    requires reaches { (s.consumed < length chunk.now) × (length line.old ≡ held_bytes) × (s.held ≤ held_bytes) × (s.wrote + line_bytes ≤ length out.old) }
+    requires known { formed ≡ well_formed s.board }
+    ensures moves { (s.consumed < result.consumed) × (result.consumed ≤ length chunk.now) × (result.held ≤ held_bytes) × (result.wrote ≤ s.wrote + line_bytes) }
+    ensures takes { Consumed s.consumed s.wrote s line.old out.old (part s.consumed result.consumed chunk.now) result line.new out.new }
 {
     let at = s.consumed;
-    let e = find(chunk, at, chunk.len(), b'\n');
+    let e = line_end(chunk, at);
     let held = hold(line, s.held, &chunk[at..e]);
     if e == chunk.len() {
         let b = s.board;
@@ -104,7 +116,7 @@ fn take_last(s: Position, line: &[u8], out: &mut [u8]) -> usize
 }
 
 // A run before its first byte: a board of one node and one console.
-#[tactic(auto, unfolding(crate::specs::Chunks::started))]
+#[tactic(auto, unfolding(crate::specs::Chunks::started, board::specs::Steps::fresh, decisions::specs::Questions::guarded, well_formed::specs::Clauses::nodes_allowed, well_formed::specs::Clauses::consoles_allowed))]
 pub fn start() -> Position
     ensures { result ≡ started }
 {

@@ -81,8 +81,8 @@ pub(crate) fn run_line(
     out: &mut [u8],
     at: usize,
 ) -> LineRun
-    requires line_bytes_in_bounds { at + line_bytes ≤ length out.old }
-    requires formed_value { formed ≡ well_formed b }
+    requires has_room { at + line_bytes ≤ length out.old }
+    requires known { formed ≡ well_formed b }
     ensures { (result.wrote ≤ at + line_bytes) × (result.board ≡ (effect_of b number line.now).board) × (result.wrote ≡ at + length (effect_of b number line.now).text) × (out.new ≡ sets out.old at (effect_of b number line.now).text) }
 {
     let a = answer_to(line, b, formed);
