@@ -3,39 +3,37 @@
 #![tactic(auto)]
 
 use board::{Answer, Board, ConsoleId, NodeId};
-use libc::STDOUT_FILENO;
+use std::io;
 
-fn main() {
-    let fresh = next(Board::fresh(3, 2));
-    let begun = next(fresh.begin_write(ConsoleId(1), 7));
-    let asked = twice(begun, NodeId(0));
-    let turned = twice(asked, NodeId(2));
-    let told = twice(turned, NodeId(0));
-    let finished = twice(told, NodeId(2));
+fn main(rt: HostRuntime) -> io::Result<()> {
+    let fresh = next(&rt, Board::fresh(3, 2))?;
+    let begun = next(&rt, fresh.begin_write(ConsoleId(1), 7))?;
+    let asked = twice(&rt, begun, NodeId(0))?;
+    let turned = twice(&rt, asked, NodeId(2))?;
+    let told = twice(&rt, turned, NodeId(0))?;
+    let finished = twice(&rt, told, NodeId(2))?;
     // P10: the cell is empty by now.
-    next(finished.deliver(ConsoleId(1), NodeId(0)));
+    next(&rt, finished.deliver(ConsoleId(1), NodeId(0)))?;
+    Ok(())
 }
 
 // Delivers to node k, and then its answer to console 1.
-fn twice(b: Board, k: NodeId) -> Board {
-    let handed = next(b.deliver(ConsoleId(1), k));
-    next(handed.deliver(ConsoleId(1), k))
+fn twice(rt: &impl Print, b: Board, k: NodeId) -> io::Result<Board> {
+    let handed = next(rt, b.deliver(ConsoleId(1), k))?;
+    next(rt, handed.deliver(ConsoleId(1), k))
 }
 
 // Writes an answer down and hands on its board.
-fn next(a: Answer) -> Board {
+fn next(rt: &impl Print, a: Answer) -> io::Result<Board> {
     let o = a.outcome;
     let t = o.tag();
-    field(o.number(), b",");
-    field(a.refusal, b",");
-    field(t.ts, b",");
-    field(t.console, b",");
-    field(o.value(), b"\n");
-    let b = a.board;
-    b
-}
-
-fn field(n: u32, end: &[u8]) {
-    io::print_decimal(STDOUT_FILENO, n as u64);
-    io::write_all(STDOUT_FILENO, end);
+    println!(rt;
+        "{},{},{},{},{}",
+        o.number(),
+        a.refusal,
+        t.ts,
+        t.console,
+        o.value()
+    )?;
+    Ok(a.board)
 }

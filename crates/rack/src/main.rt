@@ -1,95 +1,111 @@
-// Reads a schedule from standard input and answers each of its lines on standard output. All that a line comes to is done by the
-// crate schedule; this program only reads and writes. If it cannot, it says why in one line on standard error and stops; if
-// nobody reads its output any more, the system ends it.
+// Reads a schedule from standard input and answers each of its lines on standard output. All that a line comes to is
+// done by the crate schedule; this program only reads and writes. If it cannot, it says why in one line on standard
+// error and ends with status 1; if nobody reads its output any more, it ends so without a word.
 #![tactic(auto)]
 
 ghost use Rattle.std.specs.Prelude.{◌≤◌, length};
 
 use csv_lines::splitting::HELD_BYTES;
-use libc::{STDIN_FILENO, STDOUT_FILENO};
 use schedule::Position;
 use schedule::chunks::{CHUNK_BYTES, OUT_BYTES, run_chunk, run_end, start};
+use std::io;
+use std::io::{ErrorKind, Read, Write};
+use std::process::ExitCode;
 
-// A turn of reading: where the run stands after it, whether there may be more input, and whether all reads and writes
-// went well so far.
-#[derive(Clone, Copy)]
-struct Turn {
-    position: Position,
-    goes_on: bool,
-    is_well: bool,
+// Why a run ends before its input does.
+#[derive(Drop)]
+enum Failure {
+    Read(io::Error),
+    Write(io::Error),
 }
 
-// Writes the first n bytes of the output. The caller has seen that there are so many.
-fn write_first(out: &[u8], n: usize) -> bool
+// Writes the first n bytes of out. The caller has seen that there are so many.
+fn write_first<W: Write>(output: &mut W, out: &[u8], n: usize) -> Result<(), Failure>
     requires { n ≤ length out.now }
 {
-    let is_written = io::write_all(STDOUT_FILENO, &out[0..n]);
-    if !is_written {
-        os::fail(b"rack: the output cannot be written");
-    }
-    is_written
+    output.write_all(&out[..n]).map_err(Failure::Write)
 }
 
-fn over(position: Position, is_well: bool) -> Turn {
-    Turn {
-        position: position,
-        goes_on: false,
-        is_well: is_well,
-    }
-}
-
-// Reads once, and answers what came.
-fn read_some(position: Position, line: &mut [u8; HELD_BYTES], out: &mut [u8; OUT_BYTES]) -> Turn {
+// Reads once, and answers what came; where the run stands after it, or None at the end of the input.
+fn read_some<R: Read, W: Write>(
+    input: &mut R,
+    output: &mut W,
+    position: Position,
+    line: &mut [u8; HELD_BYTES],
+    out: &mut [u8; OUT_BYTES],
+) -> Result<Option<Position>, Failure> {
     let mut chunk = [0u8; CHUNK_BYTES];
-    let got = libc::read(STDIN_FILENO, &mut chunk);
-    if got < 0 {
-        os::fail(b"rack: the input cannot be read");
-        return over(position, false);
+    let n = input.read(&mut chunk).map_err(Failure::Read)?;
+    if n == 0 {
+        return Ok(None);
     }
-    if got == 0 {
-        return over(position, true);
-    }
-    let n = io::count(got, &chunk);
     let next = run_chunk(position, line, &chunk, n, out);
-    let is_written = write_first(out, next.wrote);
-    Turn {
-        position: next,
-        goes_on: is_written,
-        is_well: is_written,
+    write_first(output, out, next.wrote)?;
+    Ok(Some(next))
+}
+
+// Answers all but a last line that no LF ends. A proved loop has to end, and nothing says that an input does: so this
+// one counts to a number that no run reaches.
+fn read_all<R: Read, W: Write>(
+    input: &mut R,
+    output: &mut W,
+    line: &mut [u8; HELD_BYTES],
+    out: &mut [u8; OUT_BYTES],
+) -> Result<Position, Failure> {
+    let mut position = start();
+    for _ in 0..u64::MAX {
+        let Some(next) = read_some(input, output, position, line, out)? else {
+            break;
+        };
+        position = next;
     }
+    Ok(position)
 }
 
-// A proved loop has to end, and nothing says that an input does: so this one counts its turns down, from a number that no run uses
-// up.
-fn read_all(line: &mut [u8; HELD_BYTES], out: &mut [u8; OUT_BYTES]) -> Turn {
-    let position = start();
-    let mut c = Turn {
-        position: position,
-        goes_on: true,
-        is_well: true,
-    };
-    let mut turns = u64::MAX;
-    while turns > 0 {
-        if !c.goes_on {
-            return c;
-        }
-        c = read_some(c.position, line, out);
-        turns -= 1;
-    }
-    c
-}
-
-// Answers the last line, if no LF ends it.
-fn finish(position: Position, line: &[u8; HELD_BYTES], out: &mut [u8; OUT_BYTES]) {
-    let n = run_end(position, line, out);
-    write_first(out, n);
-}
-
-fn main() {
+// Answers the whole input.
+fn run<R: Read, W: Write>(input: &mut R, output: &mut W) -> Result<(), Failure> {
     let mut line = [0u8; HELD_BYTES];
     let mut out = [0u8; OUT_BYTES];
-    let c = read_all(&mut line, &mut out);
-    if c.is_well {
-        finish(c.position, &line, &mut out);
+    let position = read_all(input, output, &mut line, &mut out)?;
+    let n = run_end(position, &line, &mut out);
+    write_first(output, &out, n)
+}
+
+// An error's text without the number that ends it, as in 'Is a directory (os error 21)'.
+fn without_number(text: &str) -> &str {
+    match text.split_once(" (os error ") {
+        Some((why, _)) => why,
+        None => text,
+    }
+}
+
+// Says on standard error, in one line, what cannot be done and why.
+fn say(rt: &(impl Eprint + Alloc), what: &str, error: io::Error) -> io::Result<()> {
+    match format!(in rt.alloc(); "{error}") {
+        Ok(text) => {
+            let why = without_number(text.as_str());
+            eprintln!(rt; "rack: the {what}: {why}")
+        }
+        Err(_) => eprintln!(rt; "rack: the {what}: {error}"),
+    }
+}
+
+// Says what failed, unless it is that nobody reads the output any more.
+fn complain(rt: &(impl Eprint + Alloc), failure: Failure) -> io::Result<()> {
+    match failure {
+        Failure::Read(e) => say(rt, "input cannot be read", e),
+        Failure::Write(e) if e.kind() == ErrorKind::BrokenPipe => Ok(()),
+        Failure::Write(e) => say(rt, "output cannot be written", e),
+    }
+}
+
+fn main(rt: HostRuntime) -> ExitCode {
+    match run(&mut rt.stdin(), &mut rt.stdout()) {
+        Ok(()) => ExitCode::SUCCESS,
+        Err(failure) => {
+            // Nothing can be said where standard error cannot be written.
+            let _ = complain(&rt, failure);
+            ExitCode::FAILURE
+        }
     }
 }
