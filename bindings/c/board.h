@@ -1,4 +1,4 @@
-/* The board for C, on x86-64. Link with target/staticlib/libhatukeno.a, which `rt staticlib hatukeno` writes.
+/* The board for C, on x86-64. Link with crates/hatukeno/out/libhatukeno.a, which `rt lib` there writes.
  *
  * A board stands in BOARD_WORDS words of memory that the caller lends, and each call puts one step to it. The answer goes
  * into ANSWER_WORDS words:

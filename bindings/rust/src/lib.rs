@@ -1,4 +1,4 @@
-//! The board for Rust: safe functions over the proved library, which `rt staticlib hatukeno` writes for x86-64.
+//! The board for Rust: safe functions over the proved library, which `rt lib` in crates/hatukeno writes for x86-64.
 //!
 //! Console 1 of 2 writes 7 on three nodes; nodes 0 and 2 are a majority, so the write finishes without node 1:
 //!

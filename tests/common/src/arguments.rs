@@ -4,7 +4,7 @@ use std::iter::Skip;
 use std::process::exit;
 
 /// The program for schedules, if no other is named.
-pub const RACK: &str = "target/bin/rack";
+pub const RACK: &str = "crates/rack/out/rack";
 
 /// Names, some of them with a word after them. Any other use ends the program with status 2.
 pub struct Arguments {
