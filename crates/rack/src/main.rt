@@ -62,13 +62,23 @@ fn read_all<R: Read, W: Write>(
     Ok(position)
 }
 
+// Answers the last line, if no LF ends it.
+fn finish<W: Write>(
+    output: &mut W,
+    position: Position,
+    line: &[u8; HELD_BYTES],
+    out: &mut [u8; OUT_BYTES],
+) -> Result<(), Failure> {
+    let n = run_end(position, line, out);
+    write_first(output, out, n)
+}
+
 // Answers the whole input.
 fn run<R: Read, W: Write>(input: &mut R, output: &mut W) -> Result<(), Failure> {
     let mut line = [0u8; HELD_BYTES];
     let mut out = [0u8; OUT_BYTES];
     let position = read_all(input, output, &mut line, &mut out)?;
-    let n = run_end(position, &line, &mut out);
-    write_first(output, &out, n)
+    finish(output, position, &line, &mut out)
 }
 
 // An error's text without the number that ends it, as in 'Is a directory (os error 21)'.
