@@ -21,70 +21,70 @@ unfolding tag_ok
 tag_below σ t v h = ltb-true t.console σ.m (and_right (leb t.ts max_ts) _ (and_left (leb t.ts max_ts && ltb t.console σ.m) _ h))
 
 module _ (b : Board) (h : well_formed b ≡ true) where
-  three-parts : (setup_ok b.setup && nodes_ok b.setup b.nodes && consoles_ok b.setup b.consoles) ≡ true
+  three_parts : (setup_ok b.setup && nodes_ok b.setup b.nodes && consoles_ok b.setup b.consoles) ≡ true
   unfolding well_formed
-  three-parts = and_left (setup_ok b.setup && nodes_ok b.setup b.nodes && consoles_ok b.setup b.consoles) _ h
+  three_parts = and_left (setup_ok b.setup && nodes_ok b.setup b.nodes && consoles_ok b.setup b.consoles) _ h
 
-  two-parts : (setup_ok b.setup && nodes_ok b.setup b.nodes) ≡ true
-  two-parts = and_left (setup_ok b.setup && nodes_ok b.setup b.nodes) _ three-parts
+  two_parts : (setup_ok b.setup && nodes_ok b.setup b.nodes) ≡ true
+  two_parts = and_left (setup_ok b.setup && nodes_ok b.setup b.nodes) _ three_parts
 
   pub setup_part : setup_ok b.setup ≡ true
-  setup_part = and_left (setup_ok b.setup) _ two-parts
+  setup_part = and_left (setup_ok b.setup) _ two_parts
 
-  nodes-part : nodes_ok b.setup b.nodes ≡ true
-  nodes-part = and_right (setup_ok b.setup) _ two-parts
+  nodes_part : nodes_ok b.setup b.nodes ≡ true
+  nodes_part = and_right (setup_ok b.setup) _ two_parts
 
-  consoles-part : consoles_ok b.setup b.consoles ≡ true
-  consoles-part = and_right (setup_ok b.setup && nodes_ok b.setup b.nodes) _ three-parts
+  consoles_part : consoles_ok b.setup b.consoles ≡ true
+  consoles_part = and_right (setup_ok b.setup && nodes_ok b.setup b.nodes) _ three_parts
 
-  cells-part : cells_ok b.setup b.cells ≡ true
+  cells_part : cells_ok b.setup b.cells ≡ true
   unfolding well_formed
-  cells-part = and_right (setup_ok b.setup && nodes_ok b.setup b.nodes && consoles_ok b.setup b.consoles) _ h
+  cells_part = and_right (setup_ok b.setup && nodes_ok b.setup b.nodes && consoles_ok b.setup b.consoles) _ h
 
-  n-at-most : b.setup.n ≤ 5
+  n_at_most : b.setup.n ≤ 5
   unfolding setup_ok nodes_allowed
-  n-at-most = leb-true b.setup.n 5 (and_right (leb 1 b.setup.n) _ (and_left (leb 1 b.setup.n && leb b.setup.n 5) _ setup_part))
+  n_at_most = leb-true b.setup.n 5 (and_right (leb 1 b.setup.n) _ (and_left (leb 1 b.setup.n && leb b.setup.n 5) _ setup_part))
 
-  m-at-most : b.setup.m ≤ 8
+  m_at_most : b.setup.m ≤ 8
   unfolding setup_ok consoles_allowed nodes_allowed
-  m-at-most = leb-true b.setup.m 8 (and_right (leb 1 b.setup.m) _ (and_right (leb 1 b.setup.n && leb b.setup.n 5) _ setup_part))
+  m_at_most = leb-true b.setup.m 8 (and_right (leb 1 b.setup.m) _ (and_right (leb 1 b.setup.n && leb b.setup.n 5) _ setup_part))
 
   -- ---- each part passes its clause
 
   pub node_passes : (k : ℕ) → k < 5 → node_ok b.setup k (node_at b k) ≡ true
   unfolding nodes_ok node_at
-  node_passes = every_at (λ k. node_ok b.setup k (node_at b k)) 5 nodes-part
+  node_passes = every_at (λ k. node_ok b.setup k (node_at b k)) 5 nodes_part
 
   pub console_passes : (c : ℕ) → c < 8 → console_ok b.setup c (console_at b c) ≡ true
   unfolding consoles_ok console_at
-  console_passes = every_at (λ c. console_ok b.setup c (console_at b c)) 8 consoles-part
+  console_passes = every_at (λ c. console_ok b.setup c (console_at b c)) 8 consoles_part
 
   pub cell_passes : (c k : ℕ) → c < 8 → k < 5 → cell_ok b.setup c k (frame_at b c k) ≡ true
   unfolding cells_ok row_ok frame_at
-  cell_passes c k l i = every_at (λ k. cell_ok b.setup c k (frame_at b c k)) 5 (every_at (row_ok b.setup b.cells) 8 cells-part c l) k i
+  cell_passes c k l i = every_at (λ k. cell_ok b.setup c k (frame_at b c k)) 5 (every_at (row_ok b.setup b.cells) 8 cells_part c l) k i
 
   module _ (c k : ℕ) (cm : c < b.setup.m) (kn : k < b.setup.n) where
-    node-tag : tag_ok b.setup (node_at b k).tag (node_at b k).value ≡ true
+    node_tag : tag_ok b.setup (node_at b k).tag (node_at b k).value ≡ true
     unfolding node_ok
-    node-tag = rw (lt-ltb k b.setup.n kn) at (node_passes k (omega (arith, n-at-most)))
+    node_tag = rw (lt-ltb k b.setup.n kn) at (node_passes k (omega (arith, n_at_most)))
 
-    best-tag : tag_ok b.setup (console_at b c).best (console_at b c).value ≡ true
+    best_tag : tag_ok b.setup (console_at b c).best (console_at b c).value ≡ true
     unfolding console_ok
-    best-tag =
-        let passes = rw (lt-ltb c b.setup.m cm) at (console_passes c (omega (arith, m-at-most))) in
+    best_tag =
+        let passes = rw (lt-ltb c b.setup.m cm) at (console_passes c (omega (arith, m_at_most))) in
         and_left (tag_ok b.setup (console_at b c).best (console_at b c).value) _ (and_right (mark_ok (console_at b c) (console_at b c).state) _ passes)
 
-    frame-passes : frame_ok b.setup (frame_at b c k) ≡ true
+    frame_passes : frame_ok b.setup (frame_at b c k) ≡ true
     unfolding cell_ok
-    frame-passes = rw (lt-ltb c b.setup.m cm, lt-ltb k b.setup.n kn) at (cell_passes c k (omega (arith, m-at-most)) (omega (arith, n-at-most)))
+    frame_passes = rw (lt-ltb c b.setup.m cm, lt-ltb k b.setup.n kn) at (cell_passes c k (omega (arith, m_at_most)) (omega (arith, n_at_most)))
 
     -- the tags that a delivery compares have console numbers below 8
     pub comparable : Comparable k (console_at b c) (node_at b k) (frame_at b c k)
     unfolding frame_ok
     comparable = record {
-      k_8 = omega (arith, n-at-most);
-      best_8 = omega (arith, tag_below b.setup (console_at b c).best (console_at b c).value best-tag, m-at-most);
-      node_8 = omega (arith, tag_below b.setup (node_at b k).tag (node_at b k).value node-tag, m-at-most);
-      reply_8 = λ t v e. omega (arith, tag_below b.setup t v (rw e at frame-passes), m-at-most);
-      put_8 = λ t v e. omega (arith, tag_below b.setup t v (rw e at frame-passes), m-at-most);
+      k_8 = omega (arith, n_at_most);
+      best_8 = omega (arith, tag_below b.setup (console_at b c).best (console_at b c).value best_tag, m_at_most);
+      node_8 = omega (arith, tag_below b.setup (node_at b k).tag (node_at b k).value node_tag, m_at_most);
+      reply_8 = λ t v e. omega (arith, tag_below b.setup t v (rw e at frame_passes), m_at_most);
+      put_8 = λ t v e. omega (arith, tag_below b.setup t v (rw e at frame_passes), m_at_most);
     }

@@ -61,12 +61,12 @@ part_at s f i j m e g = rw (← e, g) (take_again m (drop i s))
 
 -- the field that starts at a and ends at e, in quotes or bare
 module _ (s : List ℕ) (k a e : ℕ) (h : drop a s ≡ from_field s k) (l : a ≤ length s) (g : e ≡ a + index_of comma_byte (drop a s)) where
-  part-cases : (t : Bool) → quoted (take (e - a) (drop a s)) ≡ t → take (length (field_of s k)) (drop (field_start s k) s) ≡ field_of s k
-  part-cases true q =
+  part_cases : (t : Bool) → quoted (take (e - a) (drop a s)) ≡ t → take (length (field_of s k)) (drop (field_start s k) s) ≡ field_of s k
+  part_cases true q =
       let room : e ≤ length s = omega (arith, index_le comma_byte (drop a s), length-drop a s) in
       let start : a + 1 ≡ field_start s k = omega (arith, rw q at (marked_start s k a e h g l 0)) in
       part_at s (field_of s k) (a + 1) (field_start s k) (e - 1 - (a + 1)) start (sym (marked_field s k a e h g) ∙ unquoted_yes _ q ∙ inner_part s a e (cut_room s a e room q) room)
-  part-cases false q =
+  part_cases false q =
       let start : a ≡ field_start s k = omega (arith, rw q at (marked_start s k a e h g l 0)) in
       part_at s (field_of s k) a (field_start s k) (e - a) start (sym (marked_field s k a e h g) ∙ unquoted_no _ q)
 
@@ -74,4 +74,4 @@ pub field_part : (s : List ℕ) (k : ℕ) → take (length (field_of s k)) (drop
 field_part s k =
     let a = length s - length (from_field s k) in
     let e = a + index_of comma_byte (drop a s) in
-    part-cases s k a e (from_tail s k).1 (omega arith) refl (quoted (take (e - a) (drop a s))) refl
+    part_cases s k a e (from_tail s k).1 (omega arith) refl (quoted (take (e - a) (drop a s))) refl

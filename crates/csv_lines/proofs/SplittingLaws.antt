@@ -27,32 +27,32 @@ chop_other (y ∷ []) x h = rw (ne_eqb x cr_byte h)
 chop_other (y ∷ z ∷ s) x h = ap (λ (t : List ℕ). y ∷ t) (chop_other (z ∷ s) x h)
 
 module _ (l : List ℕ) (h : ℕ) (pos : h ≡ 0 → ⊥) (le : h ≤ length l) where
-  last-held : take h l ≡ take (h - 1) l ++ (get_or l (h - 1) 0 ∷ [])
-  last-held =
+  last_held : take h l ≡ take (h - 1) l ++ (get_or l (h - 1) 0 ∷ [])
+  last_held =
       let e : suc (h - 1) ≡ h = omega arith in
       ap (λ (n : ℕ). take n l) (sym e) ∙ take-suc l (h - 1) 0 (omega arith)
 
   pub chop_held : get_or l (h - 1) 0 ≡ cr_byte → take (h - 1) l ≡ chop (take h l)
-  chop_held e = sym (ap chop (last-held ∙ rw e) ∙ chop_cr (take (h - 1) l))
+  chop_held e = sym (ap chop (last_held ∙ rw e) ∙ chop_cr (take (h - 1) l))
 
   pub chop_kept : (get_or l (h - 1) 0 ≡ cr_byte → ⊥) → take h l ≡ chop (take h l)
-  chop_kept e = sym (ap chop last-held ∙ chop_other (take (h - 1) l) (get_or l (h - 1) 0) e ∙ sym last-held)
+  chop_kept e = sym (ap chop last_held ∙ chop_other (take (h - 1) l) (get_or l (h - 1) 0) e ∙ sym last_held)
 
 -- ---- what is held
 
 module _ (l s : List ℕ) (h : ℕ) (le : h ≤ length l) where
-  held-cases : (n : ℕ) → n ≡ min (length s) (length l - h) → (t : Bool) → leb (length s) (length l - h) ≡ t → take h l ++ take n s ≡ take (length l) (take h l ++ s)
-  held-cases n e true f =
+  held_cases : (n : ℕ) → n ≡ min (length s) (length l - h) → (t : Bool) → leb (length s) (length l - h) ≡ t → take h l ++ take n s ≡ take (length l) (take h l ++ s)
+  held_cases n e true f =
       let fits : n ≡ length s = e ∙ min-eq_left (leb-true _ _ f) in
       let short : length (take h l ++ s) ≤ length l = omega (arith, length-append (take h l) s, length-take-le h l le, leb-true (length s) (length l - h) f) in
       rw fits (ap (λ (t : List ℕ). take h l ++ t) (take-length s) ∙ sym (take_all (length l) (take h l ++ s) short))
-  held-cases n e false f =
+  held_cases n e false f =
       let full : length l ≡ length (take h l) + n = omega (arith, length-take-le h l le, leb-false (length s) (length l - h) f, e) in
       sym (ap (λ (k : ℕ). take k (take h l ++ s)) full ∙ take-append-add (take h l) s n)
 
   -- the first bytes of what is held and of s, as far as there is room
   pub held_is : (n : ℕ) → n ≡ min (length s) (length l - h) → take h l ++ take n s ≡ take (length l) (take h l ++ s)
-  held_is n e = held-cases n e (leb (length s) (length l - h)) refl
+  held_is n e = held_cases n e (leb (length s) (length l - h)) refl
 
 -- ---- no more than there are
 

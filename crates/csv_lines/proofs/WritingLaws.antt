@@ -142,13 +142,13 @@ joined_fields n [] = sym (append-nil (decimal n))
 joined_fields n (m ∷ ns) = ap (λ (l : List ℕ). decimal n ++ comma_byte ∷ l) (joined_fields m ns)
 
 module _ (n : ℕ) (ns : List ℕ) where
-  line-parts : ended (n ∷ ns) ≡ decimal n ++ (fields_text ns ++ lf_byte ∷ [])
-  line-parts = ap (λ (l : List ℕ). l ++ lf_byte ∷ []) (joined_fields n ns) ∙ append_assoc (decimal n) (fields_text ns) (lf_byte ∷ [])
+  line_parts : ended (n ∷ ns) ≡ decimal n ++ (fields_text ns ++ lf_byte ∷ [])
+  line_parts = ap (λ (l : List ℕ). l ++ lf_byte ∷ []) (joined_fields n ns) ∙ append_assoc (decimal n) (fields_text ns) (lf_byte ∷ [])
 
   pub line_length : length (ended (n ∷ ns)) ≡ length (decimal n) + length (fields_text ns) + 1
   line_length =
       let parts = length-append (decimal n) (fields_text ns ++ lf_byte ∷ []) in
-      omega (arith, ap length line-parts, parts, length_snoc (fields_text ns) lf_byte)
+      omega (arith, ap length line_parts, parts, length_snoc (fields_text ns) lf_byte)
 
   -- three writes, each at the place after the one before it
   pub line_writes : (l : List ℕ) (at p q : ℕ) → p ≡ at + length (decimal n) → q ≡ p + length (fields_text ns)
@@ -156,7 +156,7 @@ module _ (n : ℕ) (ns : List ℕ) where
   line_writes l at p q e f =
       sets_sets (sets l at (decimal n)) p q (fields_text ns) (lf_byte ∷ []) f
       ∙ sets_sets l at p (decimal n) (fields_text ns ++ lf_byte ∷ []) e
-      ∙ ap (sets l at) (sym line-parts)
+      ∙ ap (sets l at) (sym line_parts)
 
 -- ---- what each function goes by
 

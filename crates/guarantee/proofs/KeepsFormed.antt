@@ -32,7 +32,7 @@ use Rattle.guarantee.specs.Claim.{◌also◌, All, none}
 use Rattle.guarantee.specs.EveryStep.{FreshFormed, StaysFormed}
 use Rattle.guarantee.proofs.Laws.Sizes.{Allowed}
 use Rattle.guarantee.proofs.Laws.States.{asking_waits, both, telling_waits}
-use Rattle.guarantee.proofs.Board.Views.{Begun, ConsolesDown, Delivered, Ranged, Switched, Yes, ask, begins, begun, consoles_down, delivered, did-begin, did-console, did-node, drop-ack, drop-reply, finish, finish-early, finished, hear, hear-ack, into, no, no-begin, no-console, no_node, nodes_down, nodes_up, out, put, questions, turn, turned, withdraw}
+use Rattle.guarantee.proofs.Board.Views.{Begun, ConsolesDown, Delivered, Ranged, Switched, Yes, ask, begins, begun, consoles_down, delivered, did_begin, did_console, did_node, drop_ack, drop_reply, finish, finish_early, finished, hear, hear_ack, into, no, no_begin, no_console, no_node, nodes_down, nodes_up, out, put, questions, turn, turned, withdraw}
 use Rattle.guarantee.proofs.Board.Formed.{Formed, formed, formed_console, formed_frame, formed_node, formed_row, formed_whole, setup_allowed}
 use Rattle.guarantee.proofs.Board.Boards.{Good, Passes, board_formed}
 use Rattle.guarantee.proofs.Board.Consoles.{acked_ok, asks_ok, hears_kind, hears_ok, next_good, rests_ok, taken_kind, tells_kind, tells_ok, waits, zero_good}
@@ -70,14 +70,14 @@ module _ (b : Board) (h : Formed b.setup b) where
     k_5 = omega (arith, allowed.n_5)
 
     -- a node's tag is good
-    node-good : Good σ (node_at b k).tag (node_at b k).value
+    node_good : Good σ (node_at b k).tag (node_at b k).value
     unfolding node_ok
-    node-good = rw (lt-ltb k σ.n kn) at (h.node k k_5)
+    node_good = rw (lt-ltb k σ.n kn) at (h.node k k_5)
 
     -- node up and node down
-    keeps-switch : (u : Bool) → Formed σ (with_node b k (with_up u (node_at b k)))
+    keeps_switch : (u : Bool) → Formed σ (with_node b k (with_up u (node_at b k)))
     unfolding with_up
-    keeps-switch u = formed_node b k (with_up u (node_at b k)) (node_in_lem σ k (with_up u (node_at b k)) kn node-good) h
+    keeps_switch u = formed_node b k (with_up u (node_at b k)) (node_in_lem σ k (with_up u (node_at b k)) kn node_good) h
 
   module _ (c : ℕ) (cm : c < σ.m) where
     abbrev x : Console
@@ -89,61 +89,61 @@ module _ (b : Board) (h : Formed b.setup b) where
     console_ok_lem = rw (lt-ltb c σ.m cm) at (h.console c (omega (arith, allowed.m_8)))
 
     -- its best tag is good
-    best-good : Good σ x.best x.value
-    best-good = and_left (tag_ok σ x.best x.value) _ (and_right (mark_ok x x.state) _ console_ok_lem)
+    best_good : Good σ x.best x.value
+    best_good = and_left (tag_ok σ x.best x.value) _ (and_right (mark_ok x x.state) _ console_ok_lem)
 
     -- it passes the tests of its state and of its mark
     passes : Passes σ x.state x
     passes = record { state = and_right (tag_ok σ x.best x.value) _ (and_right (mark_ok x x.state) _ console_ok_lem); mark = and_left (mark_ok x x.state) _ console_ok_lem }
 
     -- a row of frames that pass, and a console that passes
-    keeps-row : (f : Frame) (y : Console) → frame_ok σ f ≡ true → Good σ y.best y.value → Passes σ y.state y → Formed σ (with_console (with_row b c f) c y)
-    keeps-row f y p g q = formed_console (with_row b c f) c y (console_in_lem σ c y cm g q) (formed_row b c f allowed.n_5 (λ k l. cell_in σ c k f cm l p) h)
+    keeps_row : (f : Frame) (y : Console) → frame_ok σ f ≡ true → Good σ y.best y.value → Passes σ y.state y → Formed σ (with_console (with_row b c f) c y)
+    keeps_row f y p g q = formed_console (with_row b c f) c y (console_in_lem σ c y cm g q) (formed_row b c f allowed.n_5 (λ k l. cell_in σ c k f cm l p) h)
 
     -- begin read and begin write
-    keeps-begin : (w : Kind) (v : ℕ) → wanted_ok w v ≡ true → Formed σ (begun b c w v)
+    keeps_begin : (w : Kind) (v : ℕ) → wanted_ok w v ≡ true → Formed σ (begun b c w v)
     unfolding begun asks frame_ok
-    keeps-begin w v o = keeps-row Ask (asks w v x) refl (zero_good σ allowed) (asks_ok σ w v x allowed o)
+    keeps_begin w v o = keeps_row Ask (asks w v x) refl (zero_good σ allowed) (asks_ok σ w v x allowed o)
 
     -- console down
-    keeps-down : Formed σ (with_console b c (rests Down x))
+    keeps_down : Formed σ (with_console b c (rests Down x))
     unfolding rests
-    keeps-down = formed_console b c (rests Down x) (console_in_lem σ c (rests Down x) cm (zero_good σ allowed) (rests_ok σ x).1) h
+    keeps_down = formed_console b c (rests Down x) (console_in_lem σ c (rests Down x) cm (zero_good σ allowed) (rests_ok σ x).1) h
 
     module _ (k : ℕ) (kn : k < σ.n) where
       -- the frame in the cell has a good tag, if it has one
-      frame-ok : (f : Frame) → frame_at b c k ≡ f → frame_ok σ f ≡ true
+      frame_ok_lem : (f : Frame) → frame_at b c k ≡ f → frame_ok σ f ≡ true
       unfolding cell_ok
-      frame-ok f e = rw (lt-ltb c σ.m cm, lt-ltb k σ.n kn, e) at (h.cell c k (omega (arith, allowed.m_8)) (k_5 k kn))
+      frame_ok_lem f e = rw (lt-ltb c σ.m cm, lt-ltb k σ.n kn, e) at (h.cell c k (omega (arith, allowed.m_8)) (k_5 k kn))
 
       -- another such frame in its place
-      keeps-frame : (f : Frame) → frame_ok σ f ≡ true → Formed σ (with_frame b c k f)
-      keeps-frame f p = formed_frame b c k f (k_5 k kn) (cell_in σ c k f cm kn p) h
+      keeps_frame : (f : Frame) → frame_ok σ f ≡ true → Formed σ (with_frame b c k f)
+      keeps_frame f p = formed_frame b c k f (k_5 k kn) (cell_in σ c k f cm kn p) h
 
       -- the cell empties
-      keeps-empty : Formed σ (with_frame b c k Nothing)
+      keeps_empty : Formed σ (with_frame b c k Nothing)
       unfolding frame_ok
-      keeps-empty = keeps-frame Nothing refl
+      keeps_empty = keeps_frame Nothing refl
 
       -- and the console passes
-      keeps-console : (y : Console) → Good σ y.best y.value → Passes σ y.state y → Formed σ (with_console (with_frame b c k Nothing) c y)
-      keeps-console y g q = formed_console (with_frame b c k Nothing) c y (console_in_lem σ c y cm g q) keeps-empty
+      keeps_console : (y : Console) → Good σ y.best y.value → Passes σ y.state y → Formed σ (with_console (with_frame b c k Nothing) c y)
+      keeps_console y g q = formed_console (with_frame b c k Nothing) c y (console_in_lem σ c y cm g q) keeps_empty
 
       -- or rests
-      keeps-finish : (y : Console) → Formed σ (with_console (with_frame b c k Nothing) c (rests Idle y))
+      keeps_finish : (y : Console) → Formed σ (with_console (with_frame b c k Nothing) c (rests Idle y))
       unfolding rests
-      keeps-finish y = keeps-console (rests Idle y) (zero_good σ allowed) (rests_ok σ y).0
+      keeps_finish y = keeps_console (rests Idle y) (zero_good σ allowed) (rests_ok σ y).0
 
       -- an ask: the reply has the node's tag
-      keeps-ask : Formed σ (with_frame b c k (Reply (node_at b k).tag (node_at b k).value))
+      keeps_ask : Formed σ (with_frame b c k (Reply (node_at b k).tag (node_at b k).value))
       unfolding frame_ok
-      keeps-ask = keeps-frame (Reply (node_at b k).tag (node_at b k).value) (node-good k kn)
+      keeps_ask = keeps_frame (Reply (node_at b k).tag (node_at b k).value) (node_good k kn)
 
       -- a put: the node has its own tag or the put's
-      keeps-put : (u : Tag) (v : ℕ) → frame_at b c k ≡ Put u v → Formed σ (with_node (with_frame b c k Ack) k (taken (node_at b k) u v))
+      keeps_put : (u : Tag) (v : ℕ) → frame_at b c k ≡ Put u v → Formed σ (with_node (with_frame b c k Ack) k (taken (node_at b k) u v))
       unfolding frame_ok
-      keeps-put u v e = formed_node (with_frame b c k Ack) k (taken (node_at b k) u v)
-          (node_in_lem σ k (taken (node_at b k) u v) kn (taken_kind (Good σ) (node_at b k) u v (node-good k kn) (frame-ok (Put u v) e))) (keeps-frame Ack refl)
+      keeps_put u v e = formed_node (with_frame b c k Ack) k (taken (node_at b k) u v)
+          (node_in_lem σ k (taken (node_at b k) u v) kn (taken_kind (Good σ) (node_at b k) u v (node_good k kn) (frame_ok_lem (Put u v) e))) (keeps_frame Ack refl)
 
       -- a reply is taken in
       module _ (u : Tag) (v : ℕ) (e : frame_at b c k ≡ Reply u v) (p : is_asking x.state ≡ true) where
@@ -151,78 +151,78 @@ module _ (b : Board) (h : Formed b.setup b) where
         y = hears x k u v
 
         -- its best is the reply's tag or the old one
-        heard-good : Good σ y.best y.value
+        heard_good : Good σ y.best y.value
         unfolding frame_ok
-        heard-good = hears_kind (Good σ) x k u v best-good (frame-ok (Reply u v) e)
+        heard_good = hears_kind (Good σ) x k u v best_good (frame_ok_lem (Reply u v) e)
 
         -- fewer than q answers
-        keeps-hear : member x.answered k ≡ false → size (insert x.answered k) < ask_size σ → Formed σ (with_console (with_frame b c k Nothing) c y)
+        keeps_hear : member x.answered k ≡ false → size (insert x.answered k) < ask_size σ → Formed σ (with_console (with_frame b c k Nothing) c y)
         unfolding hears
-        keeps-hear un few = keeps-console y heard-good
+        keeps_hear un few = keeps_console y heard_good
             (hears_ok σ x k u v allowed.n_5 kn p (waits σ x x.state passes.state (asking_waits x.state p)) un few)
 
         -- a turn: a write's tag is in range since question 10 was answered yes
-        keeps-turn : (writes x.state ≡ true → y.best.ts < max_ts) → Formed σ (turned b c y)
+        keeps_turn : (writes x.state ≡ true → y.best.ts < max_ts) → Formed σ (turned b c y)
         unfolding turned tells hears frame_ok
-        keeps-turn next = keeps-row (Put (tells c y).best (tells c y).value) (tells c y) told told
+        keeps_turn next = keeps_row (Put (tells c y).best (tells c y).value) (tells c y) told told
             (tells_ok σ c y allowed p (waits σ x x.state passes.state (asking_waits x.state p)).want)
           where
             told : Good σ (tells c y).best (tells c y).value
-            told = tells_kind (Good σ) c y heard-good (λ w. next_good σ c y x.wanted cm (next w))
+            told = tells_kind (Good σ) c y heard_good (λ w. next_good σ c y x.wanted cm (next w))
 
       -- an ack is taken in, fewer than q answers
-      keeps-hear-ack : is_telling x.state ≡ true → size (insert x.answered k) < tell_size σ → Formed σ (with_console (with_frame b c k Nothing) c (acked x k))
+      keeps_hear_ack : is_telling x.state ≡ true → size (insert x.answered k) < tell_size σ → Formed σ (with_console (with_frame b c k Nothing) c (acked x k))
       unfolding acked
-      keeps-hear-ack p few = keeps-console (acked x k) best-good
+      keeps_hear_ack p few = keeps_console (acked x k) best_good
           (acked_ok σ x k allowed.n_5 kn p (waits σ x x.state passes.state (telling_waits x.state p)) passes.mark few)
 
   -- ---- the steps, by what they can answer
 
-  keeps-delivered : {c k : ℕ} {a : Answer} → c < σ.m → k < σ.n → Delivered b c k a → Keeps a
+  keeps_delivered : {c k : ℕ} {a : Answer} → c < σ.m → k < σ.n → Delivered b c k a → Keeps a
   unfolding finished
-  keeps-delivered cm kn no = h
-  keeps-delivered {c} {k} cm kn (ask _) = keeps-ask c cm k kn
-  keeps-delivered {c} {k} cm kn (put {u} {v} e) = keeps-put c cm k kn u v e
-  keeps-delivered {c} {k} cm kn (hear {u} {v} e p un few) = keeps-hear c cm k kn u v e p un few
-  keeps-delivered {c} {k} cm kn (turn {u} {v} e p _ _ next) = keeps-turn c cm k kn u v e p next
-  keeps-delivered {c} {k} cm kn (finish-early {u} {v} _ _ _ _ _) = keeps-finish c cm k kn (hears (console_at b c) k u v)
-  keeps-delivered {c} {k} cm kn (hear-ack _ p _ few) = keeps-hear-ack c cm k kn p few
-  keeps-delivered {c} {k} cm kn (finish _ _ _ _) = keeps-finish c cm k kn (acked (console_at b c) k)
-  keeps-delivered {c} {k} cm kn (withdraw _) = keeps-empty c cm k kn
-  keeps-delivered {c} {k} cm kn (drop-reply _ _) = keeps-empty c cm k kn
-  keeps-delivered {c} {k} cm kn (drop-ack _ _) = keeps-empty c cm k kn
+  keeps_delivered cm kn no = h
+  keeps_delivered {c} {k} cm kn (ask _) = keeps_ask c cm k kn
+  keeps_delivered {c} {k} cm kn (put {u} {v} e) = keeps_put c cm k kn u v e
+  keeps_delivered {c} {k} cm kn (hear {u} {v} e p un few) = keeps_hear c cm k kn u v e p un few
+  keeps_delivered {c} {k} cm kn (turn {u} {v} e p _ _ next) = keeps_turn c cm k kn u v e p next
+  keeps_delivered {c} {k} cm kn (finish_early {u} {v} _ _ _ _ _) = keeps_finish c cm k kn (hears (console_at b c) k u v)
+  keeps_delivered {c} {k} cm kn (hear_ack _ p _ few) = keeps_hear_ack c cm k kn p few
+  keeps_delivered {c} {k} cm kn (finish _ _ _ _) = keeps_finish c cm k kn (acked (console_at b c) k)
+  keeps_delivered {c} {k} cm kn (withdraw _) = keeps_empty c cm k kn
+  keeps_delivered {c} {k} cm kn (drop_reply _ _) = keeps_empty c cm k kn
+  keeps_delivered {c} {k} cm kn (drop_ack _ _) = keeps_empty c cm k kn
 
-  keeps-ranged : {c k : ℕ} {a : Answer} → Ranged b c k a → Keeps a
-  keeps-ranged out = h
-  keeps-ranged (into cm kn d) = keeps-delivered cm kn d
+  keeps_ranged : {c k : ℕ} {a : Answer} → Ranged b c k a → Keeps a
+  keeps_ranged out = h
+  keeps_ranged (into cm kn d) = keeps_delivered cm kn d
 
-  keeps-begun : {c : ℕ} {w : Kind} {v : ℕ} {a : Answer} → wanted_ok w v ≡ true → Begun b c w v a → Keeps a
-  keeps-begun o no-begin = h
-  keeps-begun {c} {w} {v} o (did-begin cm _) = keeps-begin c cm w v o
+  keeps_begun : {c : ℕ} {w : Kind} {v : ℕ} {a : Answer} → wanted_ok w v ≡ true → Begun b c w v a → Keeps a
+  keeps_begun o no_begin = h
+  keeps_begun {c} {w} {v} o (did_begin cm _) = keeps_begin c cm w v o
 
-  keeps-switched : {u : Bool} {k : ℕ} {a : Answer} → Switched u b k a → Keeps a
-  keeps-switched no_node = h
-  keeps-switched {u} {k} (did-node kn) = keeps-switch k kn u
+  keeps_switched : {u : Bool} {k : ℕ} {a : Answer} → Switched u b k a → Keeps a
+  keeps_switched no_node = h
+  keeps_switched {u} {k} (did_node kn) = keeps_switch k kn u
 
-  keeps-console-down : {c : ℕ} {a : Answer} → ConsolesDown b c a → Keeps a
-  keeps-console-down no-console = h
-  keeps-console-down {c} (did-console cm) = keeps-down c cm
+  keeps_console_down : {c : ℕ} {a : Answer} → ConsolesDown b c a → Keeps a
+  keeps_console_down no_console = h
+  keeps_console_down {c} (did_console cm) = keeps_down c cm
 
   -- a refusal hands back b itself
-  step-keeps-formed : (s : Step) → Keeps (step b s)
+  step_keeps_formed : (s : Step) → Keeps (step b s)
   unfolding step wanted_ok
-  step-keeps-formed (BeginRead c) = keeps-begun refl (begins b c Read 0)
-  step-keeps-formed (BeginWrite c v) = keeps-begun refl (begins b c Write v)
-  step-keeps-formed (Deliver c k) = keeps-ranged (delivered b c k)
-  step-keeps-formed (NodeDown k) = keeps-switched (nodes_down b k)
-  step-keeps-formed (ConsoleDown c) = keeps-console-down (consoles_down b c)
-  step-keeps-formed (NodeUp k) = keeps-switched (nodes_up b k)
+  step_keeps_formed (BeginRead c) = keeps_begun refl (begins b c Read 0)
+  step_keeps_formed (BeginWrite c v) = keeps_begun refl (begins b c Write v)
+  step_keeps_formed (Deliver c k) = keeps_ranged (delivered b c k)
+  step_keeps_formed (NodeDown k) = keeps_switched (nodes_down b k)
+  step_keeps_formed (ConsoleDown c) = keeps_console_down (consoles_down b c)
+  step_keeps_formed (NodeUp k) = keeps_switched (nodes_up b k)
 
 -- ---- the laws
 
 -- a step on a well-formed board hands back a well-formed board
 pub step_keeps_well_formed : StaysFormed
-step_keeps_well_formed b s h = formed_whole (step b s).board (step-keeps-formed b (formed b h) s)
+step_keeps_well_formed b s h = formed_whole (step b s).board (step_keeps_formed b (formed b h) s)
 
 -- the fresh board of a setup in range
 fresh_board_formed : (τ : Setup) → Allowed τ → well_formed (fresh_board τ) ≡ true

@@ -101,7 +101,7 @@ module _ {σ : Setup} (r : Run) (h : Inv σ r) (few : writes_begun r ≤ max_ts)
 
   pub progress : max (ask_size σ) (tell_size σ) ≤ count σ.n r.up → (c : ℕ) → c < σ.m → is_waiting (console_at r.board c).state ≡ true → HasDeliverable σ r c
   progress enough c cm w = go (differ σ.n (member (console_at b c).answered) r.up
-      (omega (arith, size_count σ.n (console_at b c).answered h.ok.shape.allowed.n_5 ws.small, ws.fewer, enough, most-size (waiting_cases (console_at b c).state w))))
+      (omega (arith, size_count σ.n (console_at b c).answered h.ok.shape.allowed.n_5 ws.small, ws.fewer, enough, most_size (waiting_cases (console_at b c).state w))))
     where
       b : Board
       b = r.board
@@ -109,9 +109,9 @@ module _ {σ : Setup} (r : Run) (h : Inv σ r) (few : writes_begun r ≤ max_ts)
       ws : WaitsOk σ (console_at b c).state (console_at b c)
       ws = waits σ (console_at b c) (console_at b c).state (h.ok.console_in_lem c cm).state w
 
-      most-size : (is_asking (console_at b c).state ≡ true) ⊎ (is_telling (console_at b c).state ≡ true) → size_for σ (console_at b c).state ≤ max (ask_size σ) (tell_size σ)
-      most-size (inl p) = omega (arith, ask_size_for σ (console_at b c).state p)
-      most-size (inr p) = omega (arith, tell_size_for σ (console_at b c).state p)
+      most_size : (is_asking (console_at b c).state ≡ true) ⊎ (is_telling (console_at b c).state ≡ true) → size_for σ (console_at b c).state ≤ max (ask_size σ) (tell_size σ)
+      most_size (inl p) = omega (arith, ask_size_for σ (console_at b c).state p)
+      most_size (inr p) = omega (arith, tell_size_for σ (console_at b c).state p)
 
       full : (j : ℕ) → j < σ.n → member (console_at b c).answered j ≡ false → is_nothing (frame_at b c j) ≡ false
       full j l e = cases (waiting_cases (console_at b c).state w)

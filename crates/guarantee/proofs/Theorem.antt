@@ -34,15 +34,15 @@ unfolding ask_size tell_size
 larger_is σ = omega arith
 
 module _ (σ : Setup) (r : Run) (h : Inv σ r) where
-  open-waiting : (c : ℕ) → HasOpen r c → Waits σ r c
-  open-waiting c o = any_get (λ x z. (rw z.1.1 at z.0.console_m, rw z.1.1 at (z.0.waits z.1.0))) (any_all h.ops o)
+  open_waiting : (c : ℕ) → HasOpen r c → Waits σ r c
+  open_waiting c o = any_get (λ x z. (rw z.1.1 at z.0.console_m, rw z.1.1 at (z.0.waits z.1.0))) (any_all h.ops o)
 
   claimed : writes_begun r ≤ max_writes → Demand3 σ r
   claimed few = record {
-    open_waits = open-waiting;
+    open_waits = open_waiting;
     waits_open = λ c w. h.waits c w.0 w.1;
     one_open = h.alone;
-    progress = λ up c o. progress r h few (omega (arith, up, larger_is σ)) c (open-waiting c o).0 (open-waiting c o).1;
+    progress = λ up c o. progress r h few (omega (arith, up, larger_is σ)) c (open_waiting c o).0 (open_waiting c o).1;
     bound = all_imp (λ x k. omega (arith, k.bound, most_is σ)) h.ops;
     freshness = all_imp (λ y q. all_imp (λ x z. fresh_pair x y z.0 q.0 z.1) (all_both h.ops q.1)) (all_both h.ops h.pairs);
   }

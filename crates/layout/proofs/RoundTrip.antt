@@ -49,86 +49,86 @@ module _ (w : List ℕ) (b : Board) (h : board_words ≤ length w) (t : Typed b)
   abbrev w₄ : List ℕ
   w₄ = put_cells b.cells max_cells w₃
 
-  long-1 : length w₁ ≡ length w
-  long-1 = length-sets w 0 (setup_fields b.setup)
+  long_1 : length w₁ ≡ length w
+  long_1 = length-sets w 0 (setup_fields b.setup)
 
-  long-2 : length w₂ ≡ length w
-  long-2 = nodes_long b.nodes max_nodes w₁ ∙ long-1
+  long_2 : length w₂ ≡ length w
+  long_2 = nodes_long b.nodes max_nodes w₁ ∙ long_1
 
-  long-3 : length w₃ ≡ length w
-  long-3 = consoles_long b.consoles max_consoles w₂ ∙ long-2
+  long_3 : length w₃ ≡ length w
+  long_3 = consoles_long b.consoles max_consoles w₂ ∙ long_2
 
-  long-4 : length w₄ ≡ length w
-  long-4 = cells_long b.cells max_cells w₃ ∙ long-3
+  long_4 : length w₄ ≡ length w
+  long_4 = cells_long b.cells max_cells w₃ ∙ long_3
 
   -- the cells come after the rest, the consoles after the nodes, the nodes after the setup
-  before-cells : (i : ℕ) → i < cell_offset 0 → word w₄ i ≡ word w₃ i
-  before-cells i l = all_beside cell_fields cell_wide cell_offset (λ k n l. omega arith) (cell_of Nothing) b.cells max_cells w₃ i (inl l)
+  before_cells : (i : ℕ) → i < cell_offset 0 → word w₄ i ≡ word w₃ i
+  before_cells i l = all_beside cell_fields cell_wide cell_offset (λ k n l. omega arith) (cell_of Nothing) b.cells max_cells w₃ i (inl l)
 
-  before-consoles : (i : ℕ) → i < console_offset 0 → word w₄ i ≡ word w₂ i
-  before-consoles i l = before-cells i (omega arith) ∙ all_beside console_fields console_wide console_offset (λ k n l. omega arith) idle_console b.consoles max_consoles w₂ i (inl l)
+  before_consoles : (i : ℕ) → i < console_offset 0 → word w₄ i ≡ word w₂ i
+  before_consoles i l = before_cells i (omega arith) ∙ all_beside console_fields console_wide console_offset (λ k n l. omega arith) idle_console b.consoles max_consoles w₂ i (inl l)
 
-  before-nodes : (i : ℕ) → i < node_offset 0 → word w₄ i ≡ word w₁ i
-  before-nodes i l = before-consoles i (omega arith) ∙ all_beside node_fields node_wide node_offset (λ k n l. omega arith) fresh_node b.nodes max_nodes w₁ i (inl l)
+  before_nodes : (i : ℕ) → i < node_offset 0 → word w₄ i ≡ word w₁ i
+  before_nodes i l = before_consoles i (omega arith) ∙ all_beside node_fields node_wide node_offset (λ k n l. omega arith) fresh_node b.nodes max_nodes w₁ i (inl l)
 
   -- ---- each part is read as it was, and stands
 
-  n-back : word w₄ 0 ≡ b.setup.n
+  n_back : word w₄ 0 ≡ b.setup.n
   unfolding setup_fields
-  n-back = before-nodes 0 (omega arith) ∙ stored_first (setup_fields b.setup) w 0 (omega arith) (omega arith)
+  n_back = before_nodes 0 (omega arith) ∙ stored_first (setup_fields b.setup) w 0 (omega arith) (omega arith)
 
-  m-back : word w₄ 1 ≡ b.setup.m
+  m_back : word w₄ 1 ≡ b.setup.m
   unfolding setup_fields
-  m-back = before-nodes 1 (omega arith) ∙ stored_at (setup_fields b.setup) w 0 1 (omega arith) (omega arith)
+  m_back = before_nodes 1 (omega arith) ∙ stored_at (setup_fields b.setup) w 0 1 (omega arith) (omega arith)
 
-  release-written : word w₄ 2 ≡ release_number b.setup.release
+  release_written : word w₄ 2 ≡ release_number b.setup.release
   unfolding setup_fields
-  release-written = before-nodes 2 (omega arith) ∙ stored_at (setup_fields b.setup) w 0 2 (omega arith) (omega arith)
+  release_written = before_nodes 2 (omega arith) ∙ stored_at (setup_fields b.setup) w 0 2 (omega arith) (omega arith)
 
-  nodes-back : all_from node_from node_offset (replicate max_nodes fresh_node) max_nodes w₄ ≡ b.nodes
-  nodes-back = from_all node_from node_offset fresh_node (replicate max_nodes fresh_node) w₄ b.nodes max_nodes refl t.nodes_long
-      (λ k l. node_reads.alike w₄ w₂ (node_offset k) (λ i g m. before-consoles i (omega arith))
-      ∙ all_same node_fields node_wide node_offset (λ k n l. omega arith) fresh_node b.nodes node_reads max_nodes w₁ (omega (arith, long-1)) (λ k l. tt) k l)
+  nodes_back : all_from node_from node_offset (replicate max_nodes fresh_node) max_nodes w₄ ≡ b.nodes
+  nodes_back = from_all node_from node_offset fresh_node (replicate max_nodes fresh_node) w₄ b.nodes max_nodes refl t.nodes_long
+      (λ k l. node_reads.alike w₄ w₂ (node_offset k) (λ i g m. before_consoles i (omega arith))
+      ∙ all_same node_fields node_wide node_offset (λ k n l. omega arith) fresh_node b.nodes node_reads max_nodes w₁ (omega (arith, long_1)) (λ k l. tt) k l)
 
-  nodes-stand : nodes_stand w₄ ≡ true
+  nodes_stand_lem : nodes_stand w₄ ≡ true
   unfolding nodes_stand
-  nodes-stand = every_of (λ k. node_stands w₄ (node_offset k)) max_nodes
-      (λ k l. node_standing.alike w₄ w₂ (node_offset k) (λ i g m. before-consoles i (omega arith))
-      ∙ all_same node_fields node_wide node_offset (λ k n l. omega arith) fresh_node b.nodes node_standing max_nodes w₁ (omega (arith, long-1)) (λ k l. tt) k l)
+  nodes_stand_lem = every_of (λ k. node_stands w₄ (node_offset k)) max_nodes
+      (λ k l. node_standing.alike w₄ w₂ (node_offset k) (λ i g m. before_consoles i (omega arith))
+      ∙ all_same node_fields node_wide node_offset (λ k n l. omega arith) fresh_node b.nodes node_standing max_nodes w₁ (omega (arith, long_1)) (λ k l. tt) k l)
 
-  consoles-back : all_from console_from console_offset (replicate max_consoles idle_console) max_consoles w₄ ≡ b.consoles
-  consoles-back = from_all console_from console_offset idle_console (replicate max_consoles idle_console) w₄ b.consoles max_consoles refl t.consoles_long
-      (λ k l. console_reads.alike w₄ w₃ (console_offset k) (λ i g m. before-cells i (omega arith))
-      ∙ all_same console_fields console_wide console_offset (λ k n l. omega arith) idle_console b.consoles console_reads max_consoles w₂ (omega (arith, long-2)) t.bytes k l)
+  consoles_back : all_from console_from console_offset (replicate max_consoles idle_console) max_consoles w₄ ≡ b.consoles
+  consoles_back = from_all console_from console_offset idle_console (replicate max_consoles idle_console) w₄ b.consoles max_consoles refl t.consoles_long
+      (λ k l. console_reads.alike w₄ w₃ (console_offset k) (λ i g m. before_cells i (omega arith))
+      ∙ all_same console_fields console_wide console_offset (λ k n l. omega arith) idle_console b.consoles console_reads max_consoles w₂ (omega (arith, long_2)) t.bytes k l)
 
-  consoles-stand : consoles_stand w₄ ≡ true
+  consoles_stand_lem : consoles_stand w₄ ≡ true
   unfolding consoles_stand
-  consoles-stand = every_of (λ c. console_stands w₄ (console_offset c)) max_consoles
-      (λ k l. console_standing.alike w₄ w₃ (console_offset k) (λ i g m. before-cells i (omega arith))
-      ∙ all_same console_fields console_wide console_offset (λ k n l. omega arith) idle_console b.consoles console_standing max_consoles w₂ (omega (arith, long-2)) t.bytes k l)
+  consoles_stand_lem = every_of (λ c. console_stands w₄ (console_offset c)) max_consoles
+      (λ k l. console_standing.alike w₄ w₃ (console_offset k) (λ i g m. before_cells i (omega arith))
+      ∙ all_same console_fields console_wide console_offset (λ k n l. omega arith) idle_console b.consoles console_standing max_consoles w₂ (omega (arith, long_2)) t.bytes k l)
 
-  cells-back : all_from cell_from cell_offset (replicate max_cells (cell_of Nothing)) max_cells w₄ ≡ b.cells
-  cells-back = from_all cell_from cell_offset (cell_of Nothing) (replicate max_cells (cell_of Nothing)) w₄ b.cells max_cells refl t.cells_long
-      (λ k l. all_same cell_fields cell_wide cell_offset (λ k n l. omega arith) (cell_of Nothing) b.cells cell_reads max_cells w₃ (omega (arith, long-3)) (λ k l. tt) k l)
+  cells_back : all_from cell_from cell_offset (replicate max_cells (cell_of Nothing)) max_cells w₄ ≡ b.cells
+  cells_back = from_all cell_from cell_offset (cell_of Nothing) (replicate max_cells (cell_of Nothing)) w₄ b.cells max_cells refl t.cells_long
+      (λ k l. all_same cell_fields cell_wide cell_offset (λ k n l. omega arith) (cell_of Nothing) b.cells cell_reads max_cells w₃ (omega (arith, long_3)) (λ k l. tt) k l)
 
-  cells-stand : cells_stand w₄ ≡ true
+  cells_stand_lem : cells_stand w₄ ≡ true
   unfolding cells_stand
-  cells-stand = every_of (λ i. cell_stands w₄ (cell_offset i)) max_cells
-      (λ k l. all_same cell_fields cell_wide cell_offset (λ k n l. omega arith) (cell_of Nothing) b.cells cell_standing max_cells w₃ (omega (arith, long-3)) (λ k l. tt) k l)
+  cells_stand_lem = every_of (λ i. cell_stands w₄ (cell_offset i)) max_cells
+      (λ k l. all_same cell_fields cell_wide cell_offset (λ k n l. omega arith) (cell_of Nothing) b.cells cell_standing max_cells w₃ (omega (arith, long_3)) (λ k l. tt) k l)
 
   -- ---- so is the board
 
-  board-back : board_in w₄ ≡ b
+  board_back : board_in w₄ ≡ b
   unfolding board_in
-  board-back = rw (n-back, m-back, release-written, release_back b.setup.release, nodes-back, consoles-back, cells-back)
+  board_back = rw (n_back, m_back, release_written, release_back b.setup.release, nodes_back, consoles_back, cells_back)
 
-  board-stands : stands w₄ ≡ true
+  board_stands : stands w₄ ≡ true
   unfolding stands parts_stand
-  board-stands = rw (le-leb board_words (length w₄) (omega (arith, long-4)), release-written, release_stands_lem b.setup.release, nodes-stand, consoles-stand, cells-stand)
+  board_stands = rw (le-leb board_words (length w₄) (omega (arith, long_4)), release_written, release_stands_lem b.setup.release, nodes_stand_lem, consoles_stand_lem, cells_stand_lem)
 
   written_read : decoded (encoded w b) ≡ b
   unfolding decoded encoded
-  written_read = rw (board-stands) board-back
+  written_read = rw (board_stands) board_back
 
 pub read_back : ReadBack
 read_back = written_read

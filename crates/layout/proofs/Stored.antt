@@ -66,17 +66,17 @@ module _ {A : Type 0} {s : ℕ} (fields : A → List ℕ) (wide : (x : A) → le
   all_long (suc n) w = length-sets (all n w) (offset n) (fields (get_or xs n d)) ∙ all_long n w
 
   -- what stands beside the last part is left alone by it
-  last-beside : (n : ℕ) (w : List ℕ) (i : ℕ) → (i < offset n) ⊎ (offset n + s ≤ i) → word (all (suc n) w) i ≡ word (all n w) i
+  last_beside : (n : ℕ) (w : List ℕ) (i : ℕ) → (i < offset n) ⊎ (offset n + s ≤ i) → word (all (suc n) w) i ≡ word (all n w) i
   unfolding put_all
-  last-beside n w i (inl l) = stored_beside (fields (get_or xs n d)) (all n w) (offset n) i (inl l)
-  last-beside n w i (inr l) = stored_beside (fields (get_or xs n d)) (all n w) (offset n) i (inr (omega (arith, wide (get_or xs n d))))
+  last_beside n w i (inl l) = stored_beside (fields (get_or xs n d)) (all n w) (offset n) i (inl l)
+  last_beside n w i (inr l) = stored_beside (fields (get_or xs n d)) (all n w) (offset n) i (inr (omega (arith, wide (get_or xs n d))))
 
   -- what stands before the parts, and beyond them, is left alone
   pub all_beside : (n : ℕ) (w : List ℕ) (i : ℕ) → (i < offset 0) ⊎ (offset n ≤ i) → word (all n w) i ≡ word w i
   unfolding put_all
   all_beside zero w i o = refl
-  all_beside (suc n) w i (inl l) = last-beside n w i (inl (omega (arith, low n))) ∙ all_beside n w i (inl l)
-  all_beside (suc n) w i (inr l) = last-beside n w i (inr (omega (arith, apart n (suc n) (omega arith)))) ∙ all_beside n w i (inr (omega (arith, apart n (suc n) (omega arith))))
+  all_beside (suc n) w i (inl l) = last_beside n w i (inl (omega (arith, low n))) ∙ all_beside n w i (inl l)
+  all_beside (suc n) w i (inr l) = last_beside n w i (inr (omega (arith, apart n (suc n) (omega arith)))) ∙ all_beside n w i (inr (omega (arith, apart n (suc n) (omega arith))))
 
   -- of each part is read what is seen of it
   pub all_same : {B : Type 0} {Fits : A → Type 0} {seen : A → B} {from : List ℕ → ℕ → B} → Reads A B s Fits fields seen from
@@ -89,7 +89,7 @@ module _ {A : Type 0} {s : ℕ} (fields : A → List ℕ) (wide : (x : A) → le
       go rest true e = rw (eqb-true k n e) (reads.same (all n w) (offset n) (get_or xs n d) (omega (arith, all_long n w, apart n (suc n) (omega arith))) (fits n (omega arith)))
       go rest false e =
           let m : k < n = omega (arith, eqb-false k n e) in
-          reads.alike (all (suc n) w) (all n w) (offset k) (λ i h l. last-beside n w i (inl (omega (arith, apart k n m)))) ∙ rest m
+          reads.alike (all (suc n) w) (all n w) (offset k) (λ i h l. last_beside n w i (inl (omega (arith, apart k n m)))) ∙ rest m
 
   -- parts that stand there already
   pub all_again : (n : ℕ) (w : List ℕ) → ((k : ℕ) → k < n → sets w (offset k) (fields (get_or xs k d)) ≡ w) → all n w ≡ w
@@ -99,10 +99,10 @@ module _ {A : Type 0} {s : ℕ} (fields : A → List ℕ) (wide : (x : A) → le
 
 -- a list read part by part, and each of its elements
 module _ {A : Type 0} (from : List ℕ → ℕ → A) (offset : ℕ → ℕ) (d : A) (ys : List A) (w : List ℕ) where
-  from-long : (n : ℕ) → length (all_from from offset ys n w) ≡ length ys
+  from_long : (n : ℕ) → length (all_from from offset ys n w) ≡ length ys
   unfolding all_from
-  from-long zero = refl
-  from-long (suc n) = length-set (all_from from offset ys n w) n (from w (offset n)) ∙ from-long n
+  from_long zero = refl
+  from_long (suc n) = length-set (all_from from offset ys n w) n (from w (offset n)) ∙ from_long n
 
   pub from_at : (n : ℕ) → n ≤ length ys → (k : ℕ) → k < n → get_or (all_from from offset ys n w) k d ≡ from w (offset k)
   unfolding all_from
@@ -110,9 +110,9 @@ module _ {A : Type 0} (from : List ℕ → ℕ → A) (offset : ℕ → ℕ) (d 
   from_at (suc n) h k l = go (from_at n (omega arith) k) (eqb k n) refl
     where
       go : (k < n → get_or (all_from from offset ys n w) k d ≡ from w (offset k)) → (x : Bool) → eqb k n ≡ x → get_or (set (all_from from offset ys n w) n (from w (offset n))) k d ≡ from w (offset k)
-      go rest true e = rw (eqb-true k n e) (get_or-set_same (all_from from offset ys n w) n (from w (offset n)) d (omega (arith, from-long n)))
+      go rest true e = rw (eqb-true k n e) (get_or-set_same (all_from from offset ys n w) n (from w (offset n)) d (omega (arith, from_long n)))
       go rest false e = get_or-set_other (all_from from offset ys n w) n k (from w (offset n)) d (eqb-false k n e) ∙ rest (omega (arith, eqb-false k n e))
 
   -- a list of n elements that is read part by part as xs is xs
   pub from_all : (xs : List A) (n : ℕ) → length ys ≡ n → length xs ≡ n → ((k : ℕ) → k < n → from w (offset k) ≡ get_or xs k d) → all_from from offset ys n w ≡ xs
-  from_all xs n ly lx h = ext_get_or d (all_from from offset ys n w) xs (from-long n ∙ ly ∙ sym lx) (λ i l. from_at n (omega arith) i (omega (arith, from-long n)) ∙ h i (omega (arith, from-long n)))
+  from_all xs n ly lx h = ext_get_or d (all_from from offset ys n w) xs (from_long n ∙ ly ∙ sym lx) (λ i l. from_at n (omega arith) i (omega (arith, from_long n)) ∙ h i (omega (arith, from_long n)))

@@ -1,5 +1,5 @@
 -- Laws of tests: what branch facts say of them, of 'and' and 'implies', and of a test over the numbers below n.
--- A loop that tests each number cites every-none, every_more, every-fails and every-done.
+-- A loop that tests each number cites every_none, every_more, every_fails and every_done.
 use mathlib.Core.Path.{◌≡◌, refl, sym, ◌∙◌}
 use mathlib.Core.Bool.{Bool, true, false, not, ◌&&◌}
 use Prim.Native.Nat.{ℕ, zero, suc, ◌+◌, ◌≤◌, ◌<◌}

@@ -108,8 +108,8 @@ module _ (s : Session) (chunk : List ℕ) (i e : ℕ) (few : length s.held ≤ h
   before_lf_text = rw index_is at (quiet (drop i chunk) s few).1
 
   module _ (more : e < length chunk) where
-    with-lf : part i (e + 1) chunk ≡ part i e chunk ++ (lf_byte ∷ [])
-    with-lf =
+    with_lf : part i (e + 1) chunk ≡ part i e chunk ++ (lf_byte ∷ [])
+    with_lf =
         let n : e + 1 - i ≡ suc (e - i) = omega (arith, found) in
         let in_rest : e - i < length (drop i chunk) = omega (arith, length-drop i chunk, found) in
         let is-lf : get_or (drop i chunk) (e - i) 0 ≡ lf_byte = rw index_is at (at_index (drop i chunk) (omega (arith, index_is, in_rest))) in
@@ -119,7 +119,7 @@ module _ (s : Session) (chunk : List ℕ) (i e : ℕ) (few : length s.held ≤ h
         ≡ record { held = []; board = (effect_of s.board s.number (chop (take held_bytes (s.held ++ part i e chunk)))).board; number = next_number s.number }
     unfolding after_bytes
     after_lf =
-        ap (after_bytes s) with-lf
+        ap (after_bytes s) with_lf
         ∙ after_append s (part i e chunk) (lf_byte ∷ [])
         ∙ ap (λ (z : Session). after_byte z lf_byte) before_lf
         ∙ lf_after Before lf_byte refl
@@ -127,7 +127,7 @@ module _ (s : Session) (chunk : List ℕ) (i e : ℕ) (few : length s.held ≤ h
     pub after_lf_text : text_of s (part i (e + 1) chunk) ≡ (effect_of s.board s.number (chop (take held_bytes (s.held ++ part i e chunk)))).text
     unfolding text_of
     after_lf_text =
-        ap (text_of s) with-lf
+        ap (text_of s) with_lf
         ∙ text_append s (part i e chunk) (lf_byte ∷ [])
         ∙ ap (λ (t : List ℕ). t ++ text_of (after_bytes s (part i e chunk)) (lf_byte ∷ [])) before_lf_text
         ∙ append-nil (text_at (after_bytes s (part i e chunk)) lf_byte)
@@ -145,14 +145,14 @@ module _ (s : Session) (chunk : List ℕ) (i j : ℕ) (le : i ≤ j) where
   after_more : (z : Session) → z ≡ after_bytes s (take i chunk) → after_bytes z (part i j chunk) ≡ after_bytes s (take j chunk)
   after_more z e = ap (λ (y : Session). after_bytes y (part i j chunk)) e ∙ sym (after_append s (take i chunk) (part i j chunk)) ∙ ap (after_bytes s) parts_join
 
-  text-more : (z : Session) → z ≡ after_bytes s (take i chunk) → text_of s (take i chunk) ++ text_of z (part i j chunk) ≡ text_of s (take j chunk)
-  text-more z e =
+  text_more : (z : Session) → z ≡ after_bytes s (take i chunk) → text_of s (take i chunk) ++ text_of z (part i j chunk) ≡ text_of s (take j chunk)
+  text_more z e =
       ap (λ (y : Session). text_of s (take i chunk) ++ text_of y (part i j chunk)) e
       ∙ sym (text_append s (take i chunk) (part i j chunk))
       ∙ ap (text_of s) parts_join
 
-  length-join : length (take i chunk) + length (part i j chunk) ≡ length (take j chunk)
-  length-join = sym (length-append (take i chunk) (part i j chunk)) ∙ ap length parts_join
+  length_join : length (take i chunk) + length (part i j chunk) ≡ length (take j chunk)
+  length_join = sym (length-append (take i chunk) (part i j chunk)) ∙ ap length parts_join
 
 -- the bytes up to i taken, and then those up to j
 pub consumed_more : (s : Position) (line out chunk : List ℕ) (i j : ℕ) → i ≤ j → (x y : Position) (line' out' line'' out'' : List ℕ)
@@ -160,12 +160,12 @@ pub consumed_more : (s : Position) (line out chunk : List ℕ) (i j : ℕ) → i
 consumed_more s line out chunk i j le x y line' out' line'' out'' t u =
     let first : List ℕ = text_of (session_of s line) (take i chunk) in
     let then : List ℕ = text_of (session_of x line') (part i j chunk) in
-    let both = text-more (session_of s line) chunk i j le (session_of x line') t.session in
+    let both = text_more (session_of s line) chunk i j le (session_of x line') t.session in
     let stands = after_more (session_of s line) chunk i j le (session_of x line') t.session in
     record {
       session = u.session ∙ stands;
       held = u.held ∙ ap (λ (z : Session). length z.held) stands;
-      consumed = omega (arith, u.consumed, t.consumed, length-join (session_of s line) chunk i j le);
+      consumed = omega (arith, u.consumed, t.consumed, length_join (session_of s line) chunk i j le);
       written = u.written ∙ ap (λ (o : List ℕ). sets o x.wrote then) t.written ∙ sets_sets out 0 x.wrote first then t.wrote ∙ ap (sets out 0) both;
       wrote = omega (arith, u.wrote, t.wrote, ap length both, length-append first then);
       room = u.room;

@@ -24,31 +24,31 @@ chop_length (x ∷ []) = omega arith
 chop_length (x ∷ y ∷ s) = omega (arith, chop_length (y ∷ s))
 
 module _ (f : List ℕ → List ℕ) (f-length : (s : List ℕ) → length s ≤ suc (length (f s))) where
-  held-cases : (cur : List ℕ) (t : Bool) → leb (length cur) held_bytes ≡ t → line_of (f (take held_bytes cur)) ≡ line_of (f cur)
-  held-cases cur true e = ap (λ (s : List ℕ). line_of (f s)) (take_all held_bytes cur (leb-true _ _ e))
-  held-cases cur false e =
+  held_cases : (cur : List ℕ) (t : Bool) → leb (length cur) held_bytes ≡ t → line_of (f (take held_bytes cur)) ≡ line_of (f cur)
+  held_cases cur true e = ap (λ (s : List ℕ). line_of (f s)) (take_all held_bytes cur (leb-true _ _ e))
+  held_cases cur false e =
       line_long (f (take held_bytes cur)) (omega (arith, f-length (take held_bytes cur), length-take-le held_bytes cur (omega (arith, leb-false (length cur) held_bytes e))))
       ∙ sym (line_long (f cur) (omega (arith, f-length cur, leb-false (length cur) held_bytes e)))
 
   -- the line that f makes of the bytes that are held is read as that of all bytes
-  held-line : (cur : List ℕ) → line_of (f (take held_bytes cur)) ≡ line_of (f cur)
-  held-line cur = held-cases cur (leb (length cur) held_bytes) refl
+  held_line : (cur : List ℕ) → line_of (f (take held_bytes cur)) ≡ line_of (f cur)
+  held_line cur = held_cases cur (leb (length cur) held_bytes) refl
 
 module _ (b : Board) (n : ℕ) where
   same_effect : (l l' : List ℕ) → line_of l ≡ line_of l' → effect_of b n l ≡ effect_of b n l'
   unfolding effect_of
   same_effect l l' e = rw e
 
-  chop-effect : (cur : List ℕ) → effect_of b n (chop (take held_bytes cur)) ≡ effect_of b n (chop cur)
-  chop-effect cur = same_effect (chop (take held_bytes cur)) (chop cur) (held-line chop chop_length cur)
+  chop_effect : (cur : List ℕ) → effect_of b n (chop (take held_bytes cur)) ≡ effect_of b n (chop cur)
+  chop_effect cur = same_effect (chop (take held_bytes cur)) (chop cur) (held_line chop chop_length cur)
 
-  last-effect : (cur : List ℕ) → effect_of b n (take held_bytes cur) ≡ effect_of b n cur
-  last-effect cur = same_effect (take held_bytes cur) cur (held-line (λ (s : List ℕ). s) (λ (s : List ℕ). omega arith) cur)
+  last_effect : (cur : List ℕ) → effect_of b n (take held_bytes cur) ≡ effect_of b n cur
+  last_effect cur = same_effect (take held_bytes cur) cur (held_line (λ (s : List ℕ). s) (λ (s : List ℕ). omega arith) cur)
 
   last_line : (cur : List ℕ) → text_at_end (take held_bytes cur) b n ≡ output_of b n (lines_after cur [])
   unfolding text_at_end output_of lines_after
   last_line [] = refl
-  last_line (x ∷ cur) = ap (λ (e : Effect). e.text) (last-effect (x ∷ cur)) ∙ sym (append-nil (effect_of b n (x ∷ cur)).text)
+  last_line (x ∷ cur) = ap (λ (e : Effect). e.text) (last_effect (x ∷ cur)) ∙ sym (append-nil (effect_of b n (x ∷ cur)).text)
 
 pub take_again : (n : ℕ) (s t : List ℕ) → take n (take n s ++ t) ≡ take n (s ++ t)
 take_again zero s t = refl
@@ -89,13 +89,13 @@ module _ (x : ℕ) (input : List ℕ) (ih : Good input) (cur : List ℕ) (b : Bo
   abbrev Next : List ℕ → Session → Type 0
   Next t z = (t ++ text_of z input) ++ last_text (after_bytes z input) ≡ output_of b n (lines_after cur (x ∷ input))
 
-  byte-held : eqb x lf_byte ≡ false → Next [] (holding (cur ++ (x ∷ [])) b n)
+  byte_held : eqb x lf_byte ≡ false → Next [] (holding (cur ++ (x ∷ [])) b n)
   unfolding lines_after
-  byte-held e = rw e (ih (cur ++ (x ∷ [])) b n)
+  byte_held e = rw e (ih (cur ++ (x ∷ [])) b n)
 
-  line-ended : eqb x lf_byte ≡ true → Next (effect_of b n (chop cur)).text (holding [] (effect_of b n (chop cur)).board (next_number n))
+  line_ended : eqb x lf_byte ≡ true → Next (effect_of b n (chop cur)).text (holding [] (effect_of b n (chop cur)).board (next_number n))
   unfolding lines_after output_of
-  line-ended e =
+  line_ended e =
       let z : Session = holding [] (effect_of b n (chop cur)).board (next_number n) in
       let text : List ℕ = (effect_of b n (chop cur)).text in
       rw e (append_assoc text (text_of z input) (last_text (after_bytes z input)) ∙ ap (λ (t : List ℕ). text ++ t) (ih [] (effect_of b n (chop cur)).board (next_number n)))
@@ -103,22 +103,22 @@ module _ (x : ℕ) (input : List ℕ) (ih : Good input) (cur : List ℕ) (b : Bo
   next : (t u : List ℕ) (z y : Session) → t ≡ u → z ≡ y → Next u y → Next t z
   next t u z y e f g = rw (e, f) g
 
-  byte-cases : (t : Bool) → eqb x lf_byte ≡ t → Next (text_at (holding cur b n) x) (after_byte (holding cur b n) x)
-  byte-cases true e =
+  byte_cases : (t : Bool) → eqb x lf_byte ≡ t → Next (text_at (holding cur b n) x) (after_byte (holding cur b n) x)
+  byte_cases true e =
       next _ _ _ _
-      (lf_text (holding cur b n) x e ∙ ap (λ (z : Effect). z.text) (chop-effect b n cur))
-      (lf_after (holding cur b n) x e ∙ ap (λ (z : Effect). holding [] z.board (next_number n)) (chop-effect b n cur))
-      (line-ended e)
-  byte-cases false e =
+      (lf_text (holding cur b n) x e ∙ ap (λ (z : Effect). z.text) (chop_effect b n cur))
+      (lf_after (holding cur b n) x e ∙ ap (λ (z : Effect). holding [] z.board (next_number n)) (chop_effect b n cur))
+      (line_ended e)
+  byte_cases false e =
       next _ _ _ _
       (byte_text (holding cur b n) x e)
       (byte_after (holding cur b n) x e ∙ ap (λ (l : List ℕ). record { held = l; board = b; number = n }) (take_again held_bytes cur (x ∷ [])))
-      (byte-held e)
+      (byte_held e)
 
 good : (input : List ℕ) → Good input
 unfolding text_of after_bytes
 good [] cur b n = last_line b n cur
-good (x ∷ input) cur b n = byte-cases x input (good input) cur b n (eqb x lf_byte) refl
+good (x ∷ input) cur b n = byte_cases x input (good input) cur b n (eqb x lf_byte) refl
 
 -- ---- chunks in turn
 

@@ -97,7 +97,7 @@ fn compare(options: &Options, faulty: Faulty, prints: bool) -> Agreed {
     let seed = options.seed;
     let by_lines = options.lines > 0 && (faulty.is_of_lines() || !faulty.is_faulty());
     if by_lines && !options.rack.is_file() {
-        eprintln!("compare: there is no program {}; rt check rack writes it", options.rack.display());
+        eprintln!("compare: there is no program {}; tests/program writes it", options.rack.display());
         exit(2);
     }
     if !faulty.is_of_lines() {

@@ -33,7 +33,7 @@ pub record Formed (σ : Setup) (b : Board) : Type 0 where
   pub console : (c : ℕ) → c < 8 → console_ok σ c (console_at b c) ≡ true
   pub cell : (c k : ℕ) → c < 8 → k < 5 → cell_ok σ c k (frame_at b c k) ≡ true
 
--- ---- that is what well-formed says
+-- ---- that is what board_formed says
 
 -- a well-formed board has it
 pub formed : (b : Board) → well_formed b ≡ true → Formed b.setup b

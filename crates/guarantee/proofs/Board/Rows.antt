@@ -31,7 +31,7 @@ use Rattle.guarantee.proofs.Laws.States.{asking_waits, contra, not_both, split, 
 -- on, the tag of a node that has answered is no lower than best
 pub data AskFrame (alike : Bool) (best tag : Tag) : Bool → Frame → Type 0 where
   unasked : AskFrame alike best tag false Ask
-  replied-with : {t : Tag} {v : ℕ} → key t ≤ key tag → AskFrame alike best tag false (Reply t v)
+  replied_with : {t : Tag} {v : ℕ} → key t ≤ key tag → AskFrame alike best tag false (Reply t v)
   had : (alike ≡ true → key best ≤ key tag) → AskFrame alike best tag true Nothing
 
 -- telling: the put of best, or an ack or nothing where the node's tag is no lower than best
@@ -53,7 +53,7 @@ pub ask_not_put : {alike : Bool} {best tag : Tag} {a : Bool} {u : Tag} {v : ℕ}
 ask_not_put = elim [ ]
 
 replied_tag : {alike : Bool} {best tag : Tag} {a : Bool} {u : Tag} {v : ℕ} → AskFrame alike best tag a (Reply u v) → key u ≤ key tag
-replied_tag (replied-with h) = h
+replied_tag (replied_with h) = h
 
 had_tag : {alike : Bool} {best tag : Tag} {f : Frame} → alike ≡ true → AskFrame alike best tag true f → key best ≤ key tag
 had_tag on (had h) = h on
@@ -67,7 +67,7 @@ has_tag (has h) = h
 -- a frame in a waiting console's row is of a node that has not answered, and such a node has one
 pub ask_open : {alike : Bool} {best tag : Tag} {a : Bool} {f : Frame} → AskFrame alike best tag a f → is_nothing f ≡ false → a ≡ false
 ask_open unasked e = refl
-ask_open (replied-with h) e = refl
+ask_open (replied_with h) e = refl
 ask_open (had h) e = e
 
 pub tell_open : {best tag : Tag} {a : Bool} {f : Frame} → TellFrame best tag a f → is_nothing f ≡ false → a ≡ false
@@ -77,7 +77,7 @@ tell_open (has h) e = e
 
 pub ask_full : {alike : Bool} {best tag : Tag} {f : Frame} → AskFrame alike best tag false f → is_nothing f ≡ false
 ask_full unasked = refl
-ask_full (replied-with h) = refl
+ask_full (replied_with h) = refl
 
 pub tell_full : {best tag : Tag} {f : Frame} → TellFrame best tag false f → is_nothing f ≡ false
 tell_full untold = refl
@@ -85,7 +85,7 @@ tell_full (took h) = refl
 
 -- an ask is delivered
 pub ask_replied : {alike : Bool} {best tag : Tag} {a : Bool} (v : ℕ) → AskFrame alike best tag a Ask → AskFrame alike best tag a (Reply tag v)
-ask_replied {tag = tag} v unasked = replied-with {t = tag} (omega arith)
+ask_replied {tag = tag} v unasked = replied_with {t = tag} (omega arith)
 
 -- a put is delivered, to a node whose tag is no lower afterwards
 pub put_took : {best tag : Tag} {a : Bool} {u : Tag} {v : ℕ} → key u ≤ key tag → TellFrame best tag a (Put u v) → TellFrame best tag a Ack
@@ -149,14 +149,14 @@ changed {k} {f} {old} {new} w P h o j l = go (eqb j k) refl
 
 ask_grow : {alike : Bool} {best tag tag' : Tag} {a : Bool} {f : Frame} → key tag ≤ key tag' → AskFrame alike best tag a f → AskFrame alike best tag' a f
 ask_grow g unasked = unasked
-ask_grow g (replied-with {t = t} h) = replied-with {t = t} (omega arith)
+ask_grow g (replied_with {t = t} h) = replied_with {t = t} (omega arith)
 ask_grow g (had h) = had (λ e. omega (arith, h e))
 
 -- the mark and best change; if the mark is on now and the node has answered, it was on before, with the same best
 ask_older : {alike alike' : Bool} {best best' tag : Tag} {a : Bool} {f : Frame} → (a ≡ true → alike' ≡ true → (alike ≡ true) × (key best' ≡ key best))
     → AskFrame alike best tag a f → AskFrame alike' best' tag a f
 ask_older w unasked = unasked
-ask_older w (replied-with {t = t} h) = replied-with {t = t} h
+ask_older w (replied_with {t = t} h) = replied_with {t = t} h
 ask_older w (had h) = had (λ on. omega (arith, (w refl on).1, h (w refl on).0))
 
 pub tell_grow : {best tag tag' : Tag} {a : Bool} {f : Frame} → key tag ≤ key tag' → TellFrame best tag a f → TellFrame best tag' a f
@@ -165,8 +165,8 @@ tell_grow g (took h) = took (omega arith)
 tell_grow g (has h) = has (omega arith)
 
 module _ (σ : Setup) (x : Console) (fr : ℕ → Frame) (tg tg' : ℕ → Tag) (grow : (k : ℕ) → k < σ.n → key (tg k) ≤ key (tg' k)) where
-  grow-backed : (t : ℕ) → Backed σ x fr tg t → Backed σ x fr tg' t
-  grow-backed t g = record {
+  grow_backed : (t : ℕ) → Backed σ x fr tg t → Backed σ x fr tg' t
+  grow_backed t g = record {
     members = g.members;
     enough = g.enough;
     each = λ j l i. record {
@@ -177,7 +177,7 @@ module _ (σ : Setup) (x : Console) (fr : ℕ → Frame) (tg tg' : ℕ → Tag) 
   }
 
   pub grow_floor : (t : ℕ) → Floor σ x fr tg t → Floor σ x fr tg' t
-  grow_floor t h = record { asks = λ e. grow-backed t (h.asks e); tells = h.tells }
+  grow_floor t h = record { asks = λ e. grow_backed t (h.asks e); tells = h.tells }
 
   pub grow_row : RowOk σ x fr tg → RowOk σ x fr tg'
   grow_row h = record { small = h.small; asking = λ e j l. ask_grow (grow j l) (h.asking e j l); telling = λ e j l. tell_grow (grow j l) (h.telling e j l) }
@@ -225,8 +225,8 @@ best_grows x k u v h i = go (greater u x.best) refl
 -- the mark is on after a reply: then the reply has best's tag, and unless it is the first the mark was on before, with the same
 -- best. By this, answer by answer, every answer so far has carried best's tag while the mark is on
 record Alike (x : Console) (k : ℕ) (u : Tag) (v : ℕ) : Type 0 where
-  reply-has : key (hears x k u v).best ≡ key u
-  older-have : eqb x.answered 0 ≡ false → (x.alike ≡ true) × (key (hears x k u v).best ≡ key x.best)
+  reply_has : key (hears x k u v).best ≡ key u
+  older_have : eqb x.answered 0 ≡ false → (x.alike ≡ true) × (key (hears x k u v).best ≡ key x.best)
 
 all_alike : (x : Console) (k : ℕ) (u : Tag) (v : ℕ) → Small x.best → Small u → (eqb x.answered 0 ≡ true → key x.best ≡ 0)
     → (hears x k u v).alike ≡ true → Alike x k u v
@@ -240,10 +240,10 @@ all_alike x k u v h i zero on = go (eqb x.answered 0) refl on
     later e = split (λ (t : Tag). (key t ≡ key u) × (key t ≡ key x.best)) (greater u x.best) (λ _. (refl, e)) (λ _. (sym e, refl))
 
     go : (z : Bool) → eqb x.answered 0 ≡ z → (z || x.alike && is_same (compared u x.best)) ≡ true → Alike x k u v
-    go true e o = record { reply-has = first e; older-have = λ n. absurd (contra e n) }
+    go true e o = record { reply_has = first e; older_have = λ n. absurd (contra e n) }
     go false e o =
         let same = later (same_key u x.best i h (and_right x.alike _ o)) in
-        record { reply-has = same.0; older-have = λ _. (and_left x.alike _ o, same.1) }
+        record { reply_has = same.0; older_have = λ _. (and_left x.alike _ o, same.1) }
 
 module _ (σ : Setup) (five : σ.n ≤ 5) (k : ℕ) (below : k < σ.n) (x : Console) (u : Tag) (v : ℕ) (fr fr' : ℕ → Frame) (tg : ℕ → Tag)
     (by-best : Small x.best) (by-reply : Small u)
@@ -281,7 +281,7 @@ module _ (σ : Setup) (five : σ.n ≤ 5) (k : ℕ) (below : k < σ.n) (x : Cons
     small = insert_small σ.n x.answered k five small below;
     asking = λ e j l. changed now (λ j f. j < σ.n → AskFrame (hears x k u v).alike (hears x k u v).best (tg j) (member (insert x.answered k) j) f)
         (λ l. rw (insert_same x.answered k (small_32 σ.n x.answered five small) (omega arith))
-        (had (λ on. omega (arith, (all_alike x k u v by-best by-reply zero on).reply-has, replied_tag (rw was at (h.asking e k l))))))
+        (had (λ on. omega (arith, (all_alike x k u v by-best by-reply zero on).reply_has, replied_tag (rw was at (h.asking e k l))))))
         (λ j a b l. rw (bits j a b) (older j a (h.asking e j l))) j (omega arith) l;
     telling = λ e. absurd (not_both x.state p e);
   }
@@ -289,7 +289,7 @@ module _ (σ : Setup) (five : σ.n ≤ 5) (k : ℕ) (below : k < σ.n) (x : Cons
       -- another node's frame stays, and where it has answered the mark, if it is on, was on
       older : (j : ℕ) → j < 5 → AskFrame x.alike x.best (tg j) (member x.answered j) (fr j)
           → AskFrame (hears x k u v).alike (hears x k u v).best (tg j) (member x.answered j) (fr j)
-      older j a = ask_older (λ m on. (all_alike x k u v by-best by-reply zero on).older-have (some_member x.answered j a m))
+      older j a = ask_older (λ m on. (all_alike x k u v by-best by-reply zero on).older_have (some_member x.answered j a m))
 
 -- enough replies are heard: the asking group meets the group that backs the tag, so one of the replies told it
 pub heard_all : (σ : Setup) → Allowed σ → (x : Console) (fr : ℕ → Frame) (tg : ℕ → Tag) (t : ℕ) → x.answered < 2 ^ σ.n → ask_size σ ≤ size x.answered

@@ -80,20 +80,20 @@ pub data Delivered (b : Board) (c k : ℕ) : Answer → Type 0 where
       → ask_size b.setup ≤ size (insert (console_at b c).answered k)
       → (writes (console_at b c).state ≡ true → (hears (console_at b c) k u v).best.ts < max_ts)
       → Delivered b c k (answer_with (compared u (console_at b c).best) Turned (turned b c (hears (console_at b c) k u v)))
-  finish-early : {u : Tag} {v : ℕ} → frame_at b c k ≡ Reply u v → is_asking (console_at b c).state ≡ true → member (console_at b c).answered k ≡ false
+  finish_early : {u : Tag} {v : ℕ} → frame_at b c k ≡ Reply u v → is_asking (console_at b c).state ≡ true → member (console_at b c).answered k ≡ false
       → ask_size b.setup ≤ size (insert (console_at b c).answered k)
       → finishes_early b.setup (hears (console_at b c) k u v) ≡ true
       → Delivered b c k (finished (compared u (console_at b c).best) b c k (hears (console_at b c) k u v))
-  hear-ack : frame_at b c k ≡ Ack → is_telling (console_at b c).state ≡ true → member (console_at b c).answered k ≡ false
+  hear_ack : frame_at b c k ≡ Ack → is_telling (console_at b c).state ≡ true → member (console_at b c).answered k ≡ false
       → size (insert (console_at b c).answered k) < tell_size b.setup
       → Delivered b c k (answer Heard (with_console (with_frame b c k Nothing) c (acked (console_at b c) k)))
   finish : frame_at b c k ≡ Ack → is_telling (console_at b c).state ≡ true → member (console_at b c).answered k ≡ false
       → tell_size b.setup ≤ size (insert (console_at b c).answered k)
       → Delivered b c k (finished None b c k (acked (console_at b c) k))
   withdraw : not (is_up (console_at b c).state) ≡ true → Delivered b c k (answer Discarded (with_frame b c k Nothing))
-  drop-reply : {u : Tag} {v : ℕ} → frame_at b c k ≡ Reply u v → (is_asking (console_at b c).state ≡ true → member (console_at b c).answered k ≡ true)
+  drop_reply : {u : Tag} {v : ℕ} → frame_at b c k ≡ Reply u v → (is_asking (console_at b c).state ≡ true → member (console_at b c).answered k ≡ true)
       → Delivered b c k (answer Discarded (with_frame b c k Nothing))
-  drop-ack : frame_at b c k ≡ Ack → (is_telling (console_at b c).state ≡ true → member (console_at b c).answered k ≡ true)
+  drop_ack : frame_at b c k ≡ Ack → (is_telling (console_at b c).state ≡ true → member (console_at b c).answered k ≡ true)
       → Delivered b c k (answer Discarded (with_frame b c k Nothing))
 
 -- every delivery is a refusal, or is in range and one of the above
@@ -106,25 +106,25 @@ module _ (b : Board) (c k : ℕ) where
   abbrev P : Decision → Type 0
   P d = Delivered b c k (applied b c k d)
 
-  view-frame : (f : Frame) → not (is_nothing f) ≡ true → frame_at b c k ≡ f → P (on_frame b.setup c k (console_at b c) (node_at b k) f)
+  view_frame : (f : Frame) → not (is_nothing f) ≡ true → frame_at b c k ≡ f → P (on_frame b.setup c k (console_at b c) (node_at b k) f)
   unfolding on_frame on_ask on_put on_reply on_ack replied acknowledged heard discards finishes turning finished turned awaits hears takes_in acked applied with_sent with_part
-  view-frame Nothing n e = absurd (contra n refl)
-  view-frame Ask n e = questions P (node_is_up (node_at b k) ∷ []) (λ _. no) (λ _. ask e)
-  view-frame (Put u v) n e = questions P (node_is_up (node_at b k) ∷ []) (λ _. no) (λ _. put e)
-  view-frame (Reply u v) n e = split_but P (is_asking (console_at b c).state) (member (console_at b c).answered k)
+  view_frame Nothing n e = absurd (contra n refl)
+  view_frame Ask n e = questions P (node_is_up (node_at b k) ∷ []) (λ _. no) (λ _. ask e)
+  view_frame (Put u v) n e = questions P (node_is_up (node_at b k) ∷ []) (λ _. no) (λ _. put e)
+  view_frame (Reply u v) n e = split_but P (is_asking (console_at b c).state) (member (console_at b c).answered k)
       (λ p i. split P (ltb (size (insert (console_at b c).answered k)) (ask_size b.setup))
       (λ l. hear e p i (omega (arith, ltb-true)))
       (λ l. split P (finishes_early b.setup (hears (console_at b c) k u v))
-      (λ y. finish-early e p i (omega (arith, ltb-false)) y)
+      (λ y. finish_early e p i (omega (arith, ltb-false)) y)
       (λ _. questions P (has_next_ts (hears (console_at b c) k u v) ∷ []) (λ _. no)
       (λ y. turn e p i (omega (arith, ltb-false))
       (λ w. ltb-true (hears (console_at b c) k u v).best.ts max_ts (implied (writes (console_at b c).state) _ (all_head y) w))))))
-      (λ t. drop-reply e t)
-  view-frame Ack n e = split_but P (is_telling (console_at b c).state) (member (console_at b c).answered k)
+      (λ t. drop_reply e t)
+  view_frame Ack n e = split_but P (is_telling (console_at b c).state) (member (console_at b c).answered k)
       (λ p i. split P (ltb (size (insert (console_at b c).answered k)) (tell_size b.setup))
-      (λ l. hear-ack e p i (omega (arith, ltb-true)))
+      (λ l. hear_ack e p i (omega (arith, ltb-true)))
       (λ l. finish e p i (omega (arith, ltb-false))))
-      (λ t. drop-ack e t)
+      (λ t. drop_ack e t)
 
   pub delivered : Ranged b c k (deliver b c k)
   unfolding deliver decided discards applied with_sent with_part
@@ -135,7 +135,7 @@ module _ (b : Board) (c k : ℕ) where
       yes (_ also cm also kn also n also none) = into (ltb-true c b.setup.m cm) (ltb-true k b.setup.n kn)
           (split P (is_withdrawn (console_at b c) (frame_at b c k))
           (λ e. withdraw (and_right (goes_to_node (frame_at b c k)) _ e))
-          (λ _. view-frame (frame_at b c k) n refl))
+          (λ _. view_frame (frame_at b c k) n refl))
 
 -- ---- the other steps
 
@@ -150,20 +150,20 @@ unfoldable pub begun : Board → ℕ → Kind → ℕ → Board
 begun b c w v = with_console (with_row b c Ask) c (asks w v (console_at b c))
 
 pub data Begun (b : Board) (c : ℕ) (w : Kind) (v : ℕ) : Answer → Type 0 where
-  no-begin : {r : ℕ} → Begun b c w v (refuse b r)
-  did-begin : c < b.setup.m → (console_at b c).state ≡ Idle → Begun b c w v (answer Done (begun b c w v))
+  no_begin : {r : ℕ} → Begun b c w v (refuse b r)
+  did_begin : c < b.setup.m → (console_at b c).state ≡ Idle → Begun b c w v (answer Done (begun b c w v))
 
 pub begins : (b : Board) (c : ℕ) (w : Kind) (v : ℕ) → Begun b c w v (begin b c w v)
 unfolding begin beginning applied with_sent with_part begun
-begins b c w v = questions (λ d. Begun b c w v (applied b c 0 d)) _ (λ _. no-begin) yes
+begins b c w v = questions (λ d. Begun b c w v (applied b c 0 d)) _ (λ _. no_begin) yes
   where
     yes : All Yes (is_well_formed (well_formed b) ∷ has_console b.setup c ∷ console_is_up (console_at b c) ∷ console_is_idle (console_at b c) ∷ []) → Begun b c w v (answer Done (begun b c w v))
-    yes (_ also cm also _ also i also none) = did-begin (ltb-true c b.setup.m cm) (idle_is (console_at b c).state i)
+    yes (_ also cm also _ also i also none) = did_begin (ltb-true c b.setup.m cm) (idle_is (console_at b c).state i)
 
 -- a node goes down or comes back
 pub data Switched (u : Bool) (b : Board) (k : ℕ) : Answer → Type 0 where
   no_node : {r : ℕ} → Switched u b k (refuse b r)
-  did-node : k < b.setup.n → Switched u b k (answer Done (with_node b k (with_up u (node_at b k))))
+  did_node : k < b.setup.n → Switched u b k (answer Done (with_node b k (with_up u (node_at b k))))
 
 -- whatever the last question is
 switches : (u : Bool) (b : Board) (k : ℕ) (q : Question)
@@ -172,7 +172,7 @@ unfolding applied with_sent with_part
 switches u b k q = questions (λ d. Switched u b k (applied b 0 k d)) (is_well_formed (well_formed b) ∷ has_node b.setup k ∷ q ∷ []) (λ _. no_node) yes
   where
     yes : All Yes (is_well_formed (well_formed b) ∷ has_node b.setup k ∷ q ∷ []) → Switched u b k (answer Done (with_node b k (with_up u (node_at b k))))
-    yes (_ also kn also _ also none) = did-node (ltb-true k b.setup.n kn)
+    yes (_ also kn also _ also none) = did_node (ltb-true k b.setup.n kn)
 
 pub nodes_down : (b : Board) (k : ℕ) → Switched false b k (node_down b k)
 unfolding node_down falls
@@ -183,12 +183,12 @@ unfolding node_up rises
 nodes_up b k = switches true b k (node_is_down (node_at b k))
 
 pub data ConsolesDown (b : Board) (c : ℕ) : Answer → Type 0 where
-  no-console : {r : ℕ} → ConsolesDown b c (refuse b r)
-  did-console : c < b.setup.m → ConsolesDown b c (answer Done (with_console b c (rests Down (console_at b c))))
+  no_console : {r : ℕ} → ConsolesDown b c (refuse b r)
+  did_console : c < b.setup.m → ConsolesDown b c (answer Done (with_console b c (rests Down (console_at b c))))
 
 pub consoles_down : (b : Board) (c : ℕ) → ConsolesDown b c (console_down b c)
 unfolding console_down ends applied with_sent with_part
-consoles_down b c = questions (λ d. ConsolesDown b c (applied b c 0 d)) (is_well_formed (well_formed b) ∷ has_console b.setup c ∷ console_is_up (console_at b c) ∷ []) (λ _. no-console) yes
+consoles_down b c = questions (λ d. ConsolesDown b c (applied b c 0 d)) (is_well_formed (well_formed b) ∷ has_console b.setup c ∷ console_is_up (console_at b c) ∷ []) (λ _. no_console) yes
   where
     yes : All Yes (is_well_formed (well_formed b) ∷ has_console b.setup c ∷ console_is_up (console_at b c) ∷ []) → ConsolesDown b c (answer Done (with_console b c (rests Down (console_at b c))))
-    yes (_ also cm also _ also none) = did-console (ltb-true c b.setup.m cm)
+    yes (_ also cm also _ also none) = did_console (ltb-true c b.setup.m cm)

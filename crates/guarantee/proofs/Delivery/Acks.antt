@@ -35,36 +35,36 @@ module _ {K : TagKind} {σ : Setup} {b : Board} {c k : ℕ} (d : Delivery K σ b
   abbrev row₁ : ℕ → Frame
   row₁ = frame_at (with_frame b c k Nothing) c
 
-  was-waiting : WaitsOk σ (console_at b c).state (console_at b c)
-  was-waiting = waiting d (telling_waits (console_at b c).state p)
+  was_waiting : WaitsOk σ (console_at b c).state (console_at b c)
+  was_waiting = waiting d (telling_waits (console_at b c).state p)
 
-  ack-row : RowOk σ x₁ row₁ (tags b)
-  ack-row = acked_row σ (five d) k d.k_n (console_at b c) (frame_at b c) row₁ (tags b) p was-waiting.small e (change d Nothing) (row_of d)
+  ack_row : RowOk σ x₁ row₁ (tags b)
+  ack_row = acked_row σ (five d) k d.k_n (console_at b c) (frame_at b c) row₁ (tags b) p was_waiting.small e (change d Nothing) (row_of d)
 
-  ack-spent : spent σ x₁ row₁ ≡ spent_at σ b c + 1
+  ack_spent : spent σ x₁ row₁ ≡ spent_at σ b c + 1
   unfolding spent acked
-  ack-spent = omega (arith, spent_heard σ.n k (console_at b c).answered (frame_at b c) row₁ (five d) d.k_n was-waiting.small un (rw e) (change d Nothing))
+  ack_spent = omega (arith, spent_heard σ.n k (console_at b c).answered (frame_at b c) row₁ (five d) d.k_n was_waiting.small un (rw e) (change d Nothing))
 
   pub hear_ack_effect : size (insert (console_at b c).answered k) < tell_size b.setup → Effect K σ c b (answer Heard (with_console (with_frame b c k Nothing) c x₁))
   unfolding acked
   hear_ack_effect few = record {
-    ok = console_ok_lem d x₁ (d.ok.tagged.best c d.c_m) (acked_ok σ (console_at b c) k (five d) d.k_n p was-waiting (d.ok.console_in_lem c d.c_m).mark (omega (arith, few, ap tell_size d.ok.shape.setup_is))) ack-row;
+    ok = console_ok_lem d x₁ (d.ok.tagged.best c d.c_m) (acked_ok σ (console_at b c) k (five d) d.k_n p was_waiting (d.ok.console_in_lem c d.c_m).mark (omega (arith, few, ap tell_size d.ok.shape.setup_is))) ack_row;
     beside = console_side d x₁;
     ups = console_ups d x₁;
     own = going refl (console_going d x₁ refl
-        (λ t. acked_floor σ (five d) k d.k_n (console_at b c) (frame_at b c) row₁ (tags b) p was-waiting.small e (change d Nothing) t)
-        (omega (arith, ack-spent)));
+        (λ t. acked_floor σ (five d) k d.k_n (console_at b c) (frame_at b c) row₁ (tags b) p was_waiting.small e (change d Nothing) t)
+        (omega (arith, ack_spent)));
   }
 
-  ack-held : tell_size σ ≤ size (insert (console_at b c).answered k) → Held σ (tags b) (key (console_at b c).best)
+  ack_held : tell_size σ ≤ size (insert (console_at b c).answered k) → Held σ (tags b) (key (console_at b c).best)
   unfolding acked
-  ack-held all = finished_held σ x₁ row₁ (tags b) (five d) p all ack-row
+  ack_held all = finished_held σ x₁ row₁ (tags b) (five d) p all ack_row
 
   pub last_ack_effect : tell_size σ ≤ size (insert (console_at b c).answered k) → Effect K σ c b (finished None b c k x₁)
   unfolding acked
   last_ack_effect all = finish_effect d x₁ None (record {
     waits = telling_waits (console_at b c).state p;
-    held = ack-held all;
+    held = ack_held all;
     floor = λ t g. g.tells p;
     tagged = d.ok.tagged.best c d.c_m;
   })

@@ -15,7 +15,7 @@ use Rattle.board.specs.Boards.{console_at, frame_at}
 use Rattle.board.specs.declared.Answer.{Answer}
 use Rattle.board.specs.declared.Board.{Board}
 use Rattle.guarantee.proofs.Board.Shapes.{m_is, n_is}
-use Rattle.guarantee.proofs.Board.Views.{Delivered, Ranged, ask, drop-ack, drop-reply, finish, finish-early, hear, hear-ack, into, no, out, put, turn, withdraw}
+use Rattle.guarantee.proofs.Board.Views.{Delivered, Ranged, ask, drop_ack, drop_reply, finish, finish_early, hear, hear_ack, into, no, out, put, turn, withdraw}
 use Rattle.guarantee.proofs.Board.Boards.{BoardOk, TagKind}
 use Rattle.guarantee.proofs.Board.Consoles.{Fair}
 use Rattle.guarantee.proofs.Delivery.Effects.{Delivery, Effect}
@@ -53,12 +53,12 @@ deliver_effect {K} {σ} fair b c k h chosen (into cm kn v) = go v chosen
     go (put {u} {v} e) _ = effect d.c_m (put_effect d u v e)
     go (hear {u} {v} e p i l) _ = effect d.c_m (hear_effect d u v e p i l)
     go (turn {u} {v} e p i l t) chosen = effect d.c_m (turn_effect d u v e p i (λ w. chosen d.c_m d.k_n u v e p w (turn_state d u v e p i) (t w)) (asked l))
-    go (finish-early {u} {v} e p i l y) _ = effect d.c_m (early_effect d u v e p i (asked l) y)
-    go (hear-ack e p i l) _ = effect d.c_m (hear_ack_effect d e p i l)
+    go (finish_early {u} {v} e p i l y) _ = effect d.c_m (early_effect d u v e p i (asked l) y)
+    go (hear_ack e p i l) _ = effect d.c_m (hear_ack_effect d e p i l)
     go (finish e p i l) _ = effect d.c_m (last_ack_effect d e p i (told l))
     go (withdraw e) _ = effect d.c_m (withdraw_effect d e)
-    go (drop-reply e a) _ = effect d.c_m (drop_reply_effect d e a)
-    go (drop-ack e a) _ = effect d.c_m (drop_ack_effect d e a)
+    go (drop_reply e a) _ = effect d.c_m (drop_reply_effect d e a)
+    go (drop_ack e a) _ = effect d.c_m (drop_ack_effect d e a)
 
 pub effect_ok : {K : TagKind} {σ : Setup} {c : ℕ} {b : Board} {a : Answer} → BoardOk K σ b → StepEffect K σ c b a → BoardOk K σ a.board
 effect_ok h (effect _ e) = e.ok

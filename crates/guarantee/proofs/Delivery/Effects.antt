@@ -80,7 +80,7 @@ goes_on Discarded = true
 
 pub data Own (σ : Setup) (c : ℕ) (b b' : Board) : Outcome → Type 0 where
   going : {o : Outcome} → goes_on o ≡ true → Going σ c b b' → Own σ c b b' o
-  turns-now : Turning σ c b b' → Own σ c b b' Turned
+  turns_now : Turning σ c b b' → Own σ c b b' Turned
   ends_now : {u : Tag} {v : ℕ} → Ending σ c b b' u → Own σ c b b' (Finished u v)
 
 pub record Effect (K : TagKind) (σ : Setup) (c : ℕ) (b : Board) (a : Answer) : Type 0 where

@@ -28,38 +28,38 @@ pub record Finishes (K : TagKind) (σ : Setup) (b : Board) (c : ℕ) (x : Consol
   pub tagged : K x.best x.value
 
 module _ {K : TagKind} {σ : Setup} {b : Board} {c k : ℕ} (d : Delivery K σ b c k) (x : Console) where
-  abbrev idle-again : Console
-  idle-again = rests Idle x
+  abbrev idle_again : Console
+  idle_again = rests Idle x
 
   abbrev next : Board
-  next = with_console (with_frame b c k Nothing) c idle-again
+  next = with_console (with_frame b c k Nothing) c idle_again
 
-  idle-row : RowOk σ idle-again (frame_at (with_frame b c k Nothing) c) (tags b)
+  idle_row : RowOk σ idle_again (frame_at (with_frame b c k Nothing) c) (tags b)
   unfolding rests
-  idle-row = rest_row σ idle-again (frame_at (with_frame b c k Nothing) c) (tags b) (five d) refl refl
+  idle_row = rest_row σ idle_again (frame_at (with_frame b c k Nothing) c) (tags b) (five d) refl refl
 
-  idle-ok : BoardOk K σ next
+  idle_ok : BoardOk K σ next
   unfolding rests
-  idle-ok = console_ok_lem d idle-again d.fair.zero_in (rests_ok σ x).0 idle-row
+  idle_ok = console_ok_lem d idle_again d.fair.zero_in (rests_ok σ x).0 idle_row
 
-  is-idle : (console_at next c).state ≡ Idle
+  is_idle : (console_at next c).state ≡ Idle
   unfolding rests
-  is-idle = ap (λ (y : Console). y.state) (console_is d idle-again)
+  is_idle = ap (λ (y : Console). y.state) (console_is d idle_again)
 
-  still-held : Held σ (tags b) (key x.best) → Held σ (tags next) (key x.best)
+  still_held : Held σ (tags b) (key x.best) → Held σ (tags next) (key x.best)
   unfolding node_at with_console with_frame
-  still-held h = h
+  still_held h = h
 
   pub finish_effect : (how : Compared) → Finishes K σ b c x → Effect K σ c b (finished how b c k x)
   unfolding finished
   finish_effect how f = record {
-    ok = idle-ok;
-    beside = console_side d idle-again;
-    ups = console_ups d idle-again;
+    ok = idle_ok;
+    beside = console_side d idle_again;
+    ups = console_ups d idle_again;
     own = ends_now (record {
       waits = f.waits;
-      idle = is-idle;
-      held = still-held f.held;
+      idle = is_idle;
+      held = still_held f.held;
       floor = f.floor;
       small = small_of d x.best x.value f.tagged;
       spends = omega (arith, spent_below b c d.ok d.c_m f.waits);

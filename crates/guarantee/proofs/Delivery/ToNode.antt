@@ -28,14 +28,14 @@ use Rattle.guarantee.proofs.Delivery.Effects.{Delivery, Effect, beyond_with, cha
 
 module _ {K : TagKind} {σ : Setup} {b : Board} {c k : ℕ} (d : Delivery K σ b c k) where
   -- the frame alone changes: the node's tag is as before
-  frame-effect : (f : Frame) (o : Outcome) → goes_on o ≡ true → FrameHas K f
+  frame_effect : (f : Frame) (o : Outcome) → goes_on o ≡ true → FrameHas K f
       → ((u : Tag) (v : ℕ) → f ≡ Reply u v → key (tags b k) ≤ key u)
       → (is_asking (console_at b c).state ≡ true → AskFrame (console_at b c).alike (console_at b c).best (tags b k) (member (console_at b c).answered k) f)
       → (is_telling (console_at b c).state ≡ true → TellFrame (console_at b c).best (tags b k) (member (console_at b c).answered k) f)
       → (is_waiting (console_at b c).state ≡ true → (member (console_at b c).answered k ≡ false) × (sent (frame_at b c k) ≡ 0) × (sent f ≡ 1))
       → Effect K σ c b (answer o (with_frame b c k f))
   unfolding with_frame console_at node_at
-  frame-effect f o goes good high asking telling s = record {
+  frame_effect f o goes good high asking telling s = record {
     ok = kept c b (with_frame b c k f) d.c_m (beside_frame b c k f (k_5 d)) d.ok d.ok.tagged.node (d.ok.tagged.best c d.c_m) (d.ok.console_in_lem c d.c_m)
         (frames_with d f good) (beyond_with d f)
         (frame_row σ (five d) k d.k_n (console_at b c) f (frame_at b c) (frame_at (with_frame b c k f) c) (tags b) (change d f) asking telling (row_of d));
@@ -51,7 +51,7 @@ module _ {K : TagKind} {σ : Setup} {b : Board} {c k : ℕ} (d : Delivery K σ b
   -- ---- an ask
 
   pub ask_effect : frame_at b c k ≡ Ask → Effect K σ c b (answer Handed (with_frame b c k (Reply (node_at b k).tag (node_at b k).value)))
-  ask_effect e = frame-effect (Reply (node_at b k).tag (node_at b k).value) Handed refl (d.ok.tagged.node k d.k_n)
+  ask_effect e = frame_effect (Reply (node_at b k).tag (node_at b k).value) Handed refl (d.ok.tagged.node k d.k_n)
       (λ u v q. let z : tags b k ≡ u = cc in omega (arith, ap key z))
       (λ p. ask_replied (node_at b k).value (rw e at ((row_of d).asking p k d.k_n)))
       (λ p. absurd (tell_not_ask (rw e at ((row_of d).telling p k d.k_n))))
@@ -59,16 +59,16 @@ module _ {K : TagKind} {σ : Setup} {b : Board} {c k : ℕ} (d : Delivery K σ b
 
   -- ---- a frame is thrown away: its console is not waiting, for a waiting one is up and takes every reply and ack in its row
 
-  drop-effect : (is_waiting (console_at b c).state ≡ true → ⊥) → Effect K σ c b (answer Discarded (with_frame b c k Nothing))
-  drop-effect n-w = frame-effect Nothing Discarded refl tt (λ u v q. absurd (not_reply refl q)) (λ p. absurd (n-w (asking_waits (console_at b c).state p)))
+  drop_effect : (is_waiting (console_at b c).state ≡ true → ⊥) → Effect K σ c b (answer Discarded (with_frame b c k Nothing))
+  drop_effect n-w = frame_effect Nothing Discarded refl tt (λ u v q. absurd (not_reply refl q)) (λ p. absurd (n-w (asking_waits (console_at b c).state p)))
       (λ p. absurd (n-w (telling_waits (console_at b c).state p))) (λ w. absurd (n-w w))
 
   pub withdraw_effect : not (is_up (console_at b c).state) ≡ true → Effect K σ c b (answer Discarded (with_frame b c k Nothing))
-  withdraw_effect e = drop-effect (λ w. contra e (ap not (waiting_up (console_at b c).state w)))
+  withdraw_effect e = drop_effect (λ w. contra e (ap not (waiting_up (console_at b c).state w)))
 
   pub drop_reply_effect : {u : Tag} {v : ℕ} → frame_at b c k ≡ Reply u v → (is_asking (console_at b c).state ≡ true → member (console_at b c).answered k ≡ true)
       → Effect K σ c b (answer Discarded (with_frame b c k Nothing))
-  drop_reply_effect e a = drop-effect (λ w. go w (waiting_cases (console_at b c).state w))
+  drop_reply_effect e a = drop_effect (λ w. go w (waiting_cases (console_at b c).state w))
     where
       go : is_waiting (console_at b c).state ≡ true → (is_asking (console_at b c).state ≡ true) ⊎ (is_telling (console_at b c).state ≡ true) → ⊥
       go w (inl p) = contra (a p) (unanswered d w (rw e))
@@ -76,7 +76,7 @@ module _ {K : TagKind} {σ : Setup} {b : Board} {c k : ℕ} (d : Delivery K σ b
 
   pub drop_ack_effect : frame_at b c k ≡ Ack → (is_telling (console_at b c).state ≡ true → member (console_at b c).answered k ≡ true)
       → Effect K σ c b (answer Discarded (with_frame b c k Nothing))
-  drop_ack_effect e a = drop-effect (λ w. go w (waiting_cases (console_at b c).state w))
+  drop_ack_effect e a = drop_effect (λ w. go w (waiting_cases (console_at b c).state w))
     where
       go : is_waiting (console_at b c).state ≡ true → (is_asking (console_at b c).state ≡ true) ⊎ (is_telling (console_at b c).state ≡ true) → ⊥
       go w (inl p) = ask_not_ack (rw e at ((row_of d).asking p k d.k_n))
@@ -85,59 +85,59 @@ module _ {K : TagKind} {σ : Setup} {b : Board} {c k : ℕ} (d : Delivery K σ b
   -- ---- a put
 
   module _ (u : Tag) (v : ℕ) (e : frame_at b c k ≡ Put u v) where
-    abbrev acked-board : Board
-    acked-board = with_frame b c k Ack
+    abbrev acked_board : Board
+    acked_board = with_frame b c k Ack
 
     abbrev stored : Node
     stored = taken (node_at b k) u v
 
-    abbrev put-board : Board
-    put-board = with_node acked-board k stored
+    abbrev put_board : Board
+    put_board = with_node acked_board k stored
 
-    put-keys : (key (tags b k) ≤ key stored.tag) × (key u ≤ key stored.tag)
-    put-keys = taken_key (node_at b k) u v (small_of d (node_at b k).tag (node_at b k).value (d.ok.tagged.node k d.k_n)) (small_of d u v (put_kind d e))
+    put_keys : (key (tags b k) ≤ key stored.tag) × (key u ≤ key stored.tag)
+    put_keys = taken_key (node_at b k) u v (small_of d (node_at b k).tag (node_at b k).value (d.ok.tagged.node k d.k_n)) (small_of d u v (put_kind d e))
 
-    put-side : Beside σ c b put-board
+    put_side : Beside σ c b put_board
     unfolding node_at with_frame
-    put-side = beside_trans (beside_frame b c k Ack (k_5 d)) (beside_node acked-board c k stored (shape_frame b c k Ack d.ok.shape) d.k_n put-keys.0)
+    put_side = beside_trans (beside_frame b c k Ack (k_5 d)) (beside_node acked_board c k stored (shape_frame b c k Ack d.ok.shape) d.k_n put_keys.0)
 
-    put-node : node_at put-board k ≡ stored
-    put-node = node_same acked-board (shape_frame b c k Ack d.ok.shape) k stored (k_5 d)
+    put_node : node_at put_board k ≡ stored
+    put_node = node_same acked_board (shape_frame b c k Ack d.ok.shape) k stored (k_5 d)
 
-    put-high : key u ≤ key (tags put-board k)
-    put-high = omega (arith, put-keys.1, ap (λ (y : Node). key y.tag) put-node)
+    put_high : key u ≤ key (tags put_board k)
+    put_high = omega (arith, put_keys.1, ap (λ (y : Node). key y.tag) put_node)
 
-    put-telling : is_telling (console_at b c).state ≡ true → TellFrame (console_at b c).best (tags put-board k) (member (console_at b c).answered k) Ack
-    put-telling p = put_took put-high (tell_grow (put-side.grow k d.k_n) (rw e at ((row_of d).telling p k d.k_n)))
+    put_telling : is_telling (console_at b c).state ≡ true → TellFrame (console_at b c).best (tags put_board k) (member (console_at b c).answered k) Ack
+    put_telling p = put_took put_high (tell_grow (put_side.grow k d.k_n) (rw e at ((row_of d).telling p k d.k_n)))
 
-    put-asking : is_asking (console_at b c).state ≡ true → AskFrame (console_at b c).alike (console_at b c).best (tags put-board k) (member (console_at b c).answered k) Ack
-    put-asking p = absurd (ask_not_put (rw e at ((row_of d).asking p k d.k_n)))
+    put_asking : is_asking (console_at b c).state ≡ true → AskFrame (console_at b c).alike (console_at b c).best (tags put_board k) (member (console_at b c).answered k) Ack
+    put_asking p = absurd (ask_not_put (rw e at ((row_of d).asking p k d.k_n)))
 
-    put-nodes : (j : ℕ) → j < σ.n → K (node_at put-board j).tag (node_at put-board j).value
+    put_nodes : (j : ℕ) → j < σ.n → K (node_at put_board j).tag (node_at put_board j).value
     unfolding node_at with_frame
-    put-nodes = nodes_with acked-board k stored (λ j y. j < σ.n → K y.tag y.value) (shape_frame b c k Ack d.ok.shape) (k_5 d)
+    put_nodes = nodes_with acked_board k stored (λ j y. j < σ.n → K y.tag y.value) (shape_frame b c k Ack d.ok.shape) (k_5 d)
         (λ l. taken_kind K (node_at b k) u v (d.ok.tagged.node k d.k_n) (put_kind d e)) (λ j _ l. d.ok.tagged.node j l)
 
-    put-ups : (j : ℕ) → (node_at put-board j).up ≡ (node_at b j).up
+    put_ups : (j : ℕ) → (node_at put_board j).up ≡ (node_at b j).up
     unfolding node_at with_frame
-    put-ups = nodes_with acked-board k stored (λ j y. y.up ≡ (node_at b j).up) (shape_frame b c k Ack d.ok.shape) (k_5 d) (taken_up (node_at b k) u v) (λ j _. refl)
+    put_ups = nodes_with acked_board k stored (λ j y. y.up ≡ (node_at b j).up) (shape_frame b c k Ack d.ok.shape) (k_5 d) (taken_up (node_at b k) u v) (λ j _. refl)
 
-    put-spent : is_waiting (console_at b c).state ≡ true → spent σ (console_at b c) (frame_at acked-board c) ≡ spent_at σ b c + 1
-    put-spent w = spent_frame σ k (console_at b c) Ack (frame_at b c) (frame_at acked-board c) (five d) d.k_n (unanswered d w (rw e)) (rw e) refl (change d Ack)
+    put_spent : is_waiting (console_at b c).state ≡ true → spent σ (console_at b c) (frame_at acked_board c) ≡ spent_at σ b c + 1
+    put_spent w = spent_frame σ k (console_at b c) Ack (frame_at b c) (frame_at acked_board c) (five d) d.k_n (unanswered d w (rw e)) (rw e) refl (change d Ack)
 
-    pub put_effect : Effect K σ c b (answer Handed put-board)
+    pub put_effect : Effect K σ c b (answer Handed put_board)
     unfolding console_at frame_at with_node with_frame
     put_effect = record {
-      beside = put-side;
-      ok = kept c b put-board d.c_m put-side d.ok put-nodes (d.ok.tagged.best c d.c_m) (d.ok.console_in_lem c d.c_m)
+      beside = put_side;
+      ok = kept c b put_board d.c_m put_side d.ok put_nodes (d.ok.tagged.best c d.c_m) (d.ok.console_in_lem c d.c_m)
           (frames_with d Ack tt) (beyond_with d Ack)
-          (frame_row σ (five d) k d.k_n (console_at b c) Ack (frame_at b c) (frame_at acked-board c) (tags put-board) (change d Ack) put-asking put-telling
-          (grow_row σ (console_at b c) (frame_at b c) (tags b) (tags put-board) put-side.grow (row_of d)));
-      ups = put-ups;
+          (frame_row σ (five d) k d.k_n (console_at b c) Ack (frame_at b c) (frame_at acked_board c) (tags put_board) (change d Ack) put_asking put_telling
+          (grow_row σ (console_at b c) (frame_at b c) (tags b) (tags put_board) put_side.grow (row_of d)));
+      ups = put_ups;
       own = going refl (record {
         state = refl;
-        floor = λ t f. frame_floor σ (five d) k d.k_n (console_at b c) Ack (frame_at b c) (frame_at acked-board c) (tags put-board) (change d Ack) (λ u v q. absurd (not_reply refl q)) t
-            (grow_floor σ (console_at b c) (frame_at b c) (tags b) (tags put-board) put-side.grow t f);
-        spends = λ w. omega (arith, put-spent w);
+        floor = λ t f. frame_floor σ (five d) k d.k_n (console_at b c) Ack (frame_at b c) (frame_at acked_board c) (tags put_board) (change d Ack) (λ u v q. absurd (not_reply refl q)) t
+            (grow_floor σ (console_at b c) (frame_at b c) (tags b) (tags put_board) put_side.grow t f);
+        spends = λ w. omega (arith, put_spent w);
       });
     }

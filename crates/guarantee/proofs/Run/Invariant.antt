@@ -53,25 +53,25 @@ pub record Inv (σ : Setup) (r : Run) : Type 0 where
 -- ---- the pairs move with their operations
 
 module _ {σ : Setup} {place : ℕ} {b b' : Board} where
-  pair-move : (x x' y y' : Op) → Moves σ place b b' x x' → Moves σ place b b' y y' → OpOk σ place b y → PairOk σ b x y → PairOk σ b' x' y'
-  pair-move x x' y y' mx my oy p = record { above = λ e l. go l (mx.old e) }
+  pair_move : (x x' y y' : Op) → Moves σ place b b' x x' → Moves σ place b b' y y' → OpOk σ place b y → PairOk σ b x y → PairOk σ b' x' y'
+  pair_move x x' y y' mx my oy p = record { above = λ e l. go l (mx.old e) }
     where
       go : x'.ended < y'.began → ((x.status ≡ Complete) × (x'.ended ≡ x.ended) × (x'.tag ≡ x.tag)) ⊎ (x'.ended ≡ place) → Above σ b' y' (key x'.tag)
       go l (inl q) = rw q.2 (my.above (key x.tag) (p.above q.0 (omega (arith, my.same_began, q.1))))
       go l (inr q) = absurd (omega (arith, my.same_began, oy.earlier))
 
   pub pairs_move : {l r : List Op} → Each (Moves σ place b b') l r → All (OpOk σ place b) l → Pairs σ b l → Pairs σ b' r
-  pairs_move {l} {r} es oks ps = all_each (λ y y' my q. all_each (λ x x' mx p. pair-move x x' y y' mx my q.0 p) es q.1) es (all_both oks ps)
+  pairs_move {l} {r} es oks ps = all_each (λ y y' my q. all_each (λ x x' mx p. pair_move x x' y y' mx my q.0 p) es q.1) es (all_both oks ps)
 
   pub open_move : (c : ℕ) → is_waiting (console_at b' c).state ≡ true → (x y : Op) → Moves σ place b b' x y → OpenAt c x → OpenAt c y
   open_move c w x y mv o = (mv.stays o.0 (rw o.1 w), mv.same_console ∙ o.1)
 
   -- what is open now was so before
-  open-before : (c : ℕ) (y x : Op) → Moves σ place b b' x y → is_open_at c y ≡ true → is_open_at c x ≡ true
-  open-before c y x mv e = both (ap is_open (mv.was_open (open_is y.status (and_left (is_open y.status) _ e)))) (rw mv.same_console at (and_right (is_open y.status) _ e))
+  open_before : (c : ℕ) (y x : Op) → Moves σ place b b' x y → is_open_at c y ≡ true → is_open_at c x ≡ true
+  open_before c y x mv e = both (ap is_open (mv.was_open (open_is y.status (and_left (is_open y.status) _ e)))) (rw mv.same_console at (and_right (is_open y.status) _ e))
 
-  alone-moves : {l r : List Op} → Each (Moves σ place b b') l r → (c : ℕ) → tally (is_open_at c) r ≤ tally (is_open_at c) l
-  alone-moves es c = tally_le (is_open_at c) (is_open_at c) (open-before c) (each_flip es)
+  alone_moves : {l r : List Op} → Each (Moves σ place b b') l r → (c : ℕ) → tally (is_open_at c) r ≤ tally (is_open_at c) l
+  alone_moves es c = tally_le (is_open_at c) (is_open_at c) (open_before c) (each_flip es)
 
 -- ---- a step after which the log's operations have moved, and none has begun
 
@@ -86,7 +86,7 @@ inv_step r b' l u h k es w v = record {
   ops = all_each (λ x y mv _. mv.ok) es h.ops;
   pairs = pairs_move es h.ops h.pairs;
   waits = λ c cm z. any_each (open_move c z) es (h.waits c cm (w c cm z));
-  alone = λ c. omega (arith, h.alone c, alone-moves es c);
+  alone = λ c. omega (arith, h.alone c, alone_moves es c);
   ups = v;
 }
 

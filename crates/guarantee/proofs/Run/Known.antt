@@ -65,16 +65,16 @@ pub good_fair : {σ : Setup} → Allowed σ → Fair (Good σ) σ
 good_fair {σ} al = record { good = λ t v k. k; zero_in = zero_good σ al }
 
 module _ {σ : Setup} {place : ℕ} {b b' : Board} where
-  stays-written : (x y : Op) → Moves σ place b b' x y → has_written x ≡ true → has_written y ≡ true
-  stays-written x y mv e = written y (mv.same_wrote ∙ and_left x.wrote x.turned e) (mv.keeps (and_right x.wrote x.turned e))
+  stays_written : (x y : Op) → Moves σ place b b' x y → has_written x ≡ true → has_written y ≡ true
+  stays_written x y mv e = written y (mv.same_wrote ∙ and_left x.wrote x.turned e) (mv.keeps (and_right x.wrote x.turned e))
 
   pub known_moves : {l l' : List Op} → Each (Moves σ place b b') l l' → (t : Tag) (v : ℕ) → Known σ l t v → Known σ l' t v
-  known_moves es t v k = record { good = k.good; few = omega (arith, k.few, tally_le has_written has_written stays-written es) }
+  known_moves es t v k = record { good = k.good; few = omega (arith, k.few, tally_le has_written has_written stays_written es) }
 
   -- a write turns: one more has
   pub more_written : {l l' : List Op} (c : ℕ) → Each (Moves σ place b b') l l' → All (OpOk σ place b) l → Any (OpenAt c) l
       → is_asking (console_at b c).state ≡ true → writes (console_at b c).state ≡ true → is_telling (console_at b' c).state ≡ true → tally has_written l < tally has_written l'
-  more_written c es oks o p w t = tally_lt has_written has_written stays-written
+  more_written c es oks o p w t = tally_lt has_written has_written stays_written
       (λ x y mv z. (
         unwritten x (z.0.asks z.1.0 (rw z.1.1 p)),
         written y (mv.same_wrote ∙ sym (z.0.writes z.1.0) ∙ rw z.1.1 w) (told x y mv z.1),

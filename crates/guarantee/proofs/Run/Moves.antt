@@ -23,7 +23,7 @@ use Rattle.guarantee.proofs.Laws.States.{contra, not_both, telling_waits, turns}
 use Rattle.guarantee.proofs.Board.Rows.{Held, grow_floor}
 use Rattle.guarantee.proofs.Board.Boards.{Beside, BoardOk, TagKind, same_floor, tags}
 use Rattle.guarantee.proofs.Delivery.Spent.{earlier, most, spent, sum_same, weight}
-use Rattle.guarantee.proofs.Delivery.Effects.{Ending, Going, Own, RowFloor, Turning, ends_now, goes_on, going, spent_below, spent_at, turns-now}
+use Rattle.guarantee.proofs.Delivery.Effects.{Ending, Going, Own, RowFloor, Turning, ends_now, goes_on, going, spent_below, spent_at, turns_now}
 
 pub record OpOk (σ : Setup) (place : ℕ) (b : Board) (x : Op) : Type 0 where
   pub earlier : x.began < place
@@ -140,8 +140,8 @@ goes_counts i x Discarded e = refl
 -- ---- the open operation of the console that is delivered to
 
 module _ {K : TagKind} {σ : Setup} {place : ℕ} {b b' : Board} (x : Op) (e : x.status ≡ Open) (h : OpOk σ place b x) (k : BoardOk K σ b') where
-  going-moves : Going σ x.console b b' → Moves σ place b b' x (counted x)
-  going-moves g = record {
+  going_moves : Going σ x.console b b' → Moves σ place b b' x (counted x)
+  going_moves g = record {
     same_began = refl;
     same_console = refl;
     same_wrote = refl;
@@ -152,9 +152,9 @@ module _ {K : TagKind} {σ : Setup} {place : ℕ} {b b' : Board} (x : Op) (e : x
     stays = λ q _. q;
     ok = record {
       earlier = omega (arith, h.earlier);
-      bound = omega (arith, spends, spent_below b' x.console k h.console_m waits-on);
+      bound = omega (arith, spends, spent_below b' x.console k h.console_m waits_on);
       console_m = h.console_m;
-      waits = λ _. waits-on;
+      waits = λ _. waits_on;
       writes = λ _. ap writes g.state ∙ h.writes e;
       spends = λ _. spends;
       asks = λ q p. h.asks q (ap is_asking (sym g.state) ∙ p);
@@ -165,14 +165,14 @@ module _ {K : TagKind} {σ : Setup} {place : ℕ} {b b' : Board} (x : Op) (e : x
     };
   }
     where
-      waits-on : is_waiting (console_at b' x.console).state ≡ true
-      waits-on = ap is_waiting g.state ∙ h.waits e
+      waits_on : is_waiting (console_at b' x.console).state ≡ true
+      waits_on = ap is_waiting g.state ∙ h.waits e
 
       spends : x.took + 1 ≤ spent_at σ b' x.console
       spends = omega (arith, h.spends e, g.spends (h.waits e))
 
-  turning-moves : Turning σ x.console b b' → Moves σ place b b' x (turning x)
-  turning-moves g = record {
+  turning_moves : Turning σ x.console b b' → Moves σ place b b' x (turning x)
+  turning_moves g = record {
     same_began = refl;
     same_console = refl;
     same_wrote = refl;
@@ -183,9 +183,9 @@ module _ {K : TagKind} {σ : Setup} {place : ℕ} {b b' : Board} (x : Op) (e : x
     stays = λ q _. q;
     ok = record {
       earlier = omega (arith, h.earlier);
-      bound = omega (arith, spends, spent_below b' x.console k h.console_m waits-on);
+      bound = omega (arith, spends, spent_below b' x.console k h.console_m waits_on);
       console_m = h.console_m;
-      waits = λ _. waits-on;
+      waits = λ _. waits_on;
       writes = λ _. ap writes g.state ∙ (turns (console_at b x.console).state g.asked).1 ∙ h.writes e;
       spends = λ _. spends;
       asks = λ q p. absurd (not_both (console_at b' x.console).state p told);
@@ -199,14 +199,14 @@ module _ {K : TagKind} {σ : Setup} {place : ℕ} {b b' : Board} (x : Op) (e : x
       told : is_telling (console_at b' x.console).state ≡ true
       told = ap is_telling g.state ∙ (turns (console_at b x.console).state g.asked).0
 
-      waits-on : is_waiting (console_at b' x.console).state ≡ true
-      waits-on = telling_waits (console_at b' x.console).state told
+      waits_on : is_waiting (console_at b' x.console).state ≡ true
+      waits_on = telling_waits (console_at b' x.console).state told
 
       spends : x.took + 1 ≤ spent_at σ b' x.console
       spends = omega (arith, h.spends e, g.spends)
 
-  ending-moves : (u : Tag) (v : ℕ) → Ending σ x.console b b' u → Moves σ place b b' x (finishing place u v x)
-  ending-moves u v g = record {
+  ending_moves : (u : Tag) (v : ℕ) → Ending σ x.console b b' u → Moves σ place b b' x (finishing place u v x)
+  ending_moves u v g = record {
     same_began = refl;
     same_console = refl;
     same_wrote = refl;
@@ -230,10 +230,10 @@ module _ {K : TagKind} {σ : Setup} {place : ℕ} {b b' : Board} (x : Op) (e : x
     };
   }
 
-  hit-moves : {o : Outcome} → Own σ x.console b b' o → Moves σ place b b' x (delivering place o x)
-  hit-moves {o} (going z g) = rw (goes_counts place x o z) (going-moves g)
-  hit-moves (turns-now g) = turning-moves g
-  hit-moves (ends_now {u} {v} g) = ending-moves u v g
+  hit_moves : {o : Outcome} → Own σ x.console b b' o → Moves σ place b b' x (delivering place o x)
+  hit_moves {o} (going z g) = rw (goes_counts place x o z) (going_moves g)
+  hit_moves (turns_now g) = turning_moves g
+  hit_moves (ends_now {u} {v} g) = ending_moves u v g
 
 -- ---- deliver, and console down
 
@@ -242,7 +242,7 @@ pub deliver_moves : {K : TagKind} {σ : Setup} {c place : ℕ} {b b' : Board} {o
 deliver_moves {K} {σ} {c} {place} {b} {b'} {o} x k s w h = go (marked c (delivering place o) x)
   where
     go : {y : Op} → Marked c (delivering place o) x y → Moves σ place b b' x y
-    go (hit e q) = hit-moves x e h k (subst (λ c. Own σ c b b' o) (sym q) w)
+    go (hit e q) = hit_moves x e h k (subst (λ c. Own σ c b b' o) (sym q) w)
     go (miss a) = apart_moves x k.shape.allowed.n_5 s a h
 
 pub down_moves : {σ : Setup} {c place : ℕ} {b b' : Board} (x : Op) → σ.n ≤ 5 → Beside σ c b b' → (console_at b' c).state ≡ Down

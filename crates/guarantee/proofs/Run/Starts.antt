@@ -37,62 +37,62 @@ pub record Begins (K : TagKind) (σ : Setup) (c : ℕ) (w : Kind) (b b' : Board)
   pub floor : (t : ℕ) → Held σ (tags b) t → RowFloor σ b' c t
 
 module _ {K : TagKind} {σ : Setup} (fair : Fair K σ) (b : Board) (c : ℕ) (h : BoardOk K σ b) (cm : c < σ.m) where
-  c-below : c < 8
-  c-below = omega (arith, h.shape.allowed.m_8)
+  c_below : c < 8
+  c_below = omega (arith, h.shape.allowed.m_8)
 
   module _ (w : Kind) (v : ℕ) where
     abbrev x₀ : Console
     x₀ = asks w v (console_at b c)
 
-    begin-console : console_at (begun b c w v) c ≡ x₀
+    begin_console : console_at (begun b c w v) c ≡ x₀
     unfolding begun
-    begin-console = console_same (with_row b c Ask) (shape_row b c Ask h.shape) c x₀ c-below
+    begin_console = console_same (with_row b c Ask) (shape_row b c Ask h.shape) c x₀ c_below
 
-    begin-state : (console_at (begun b c w v) c).state ≡ Asking w
+    begin_state : (console_at (begun b c w v) c).state ≡ Asking w
     unfolding asks
-    begin-state = ap (λ (y : Console). y.state) begin-console
+    begin_state = ap (λ (y : Console). y.state) begin_console
 
-    begin-side : Beside σ c b (begun b c w v)
+    begin_side : Beside σ c b (begun b c w v)
     unfolding begun
-    begin-side = beside_trans (beside_row b c Ask h.shape) (beside_console (with_row b c Ask) c x₀)
+    begin_side = beside_trans (beside_row b c Ask h.shape) (beside_console (with_row b c Ask) c x₀)
 
-    begin-frame : (j : ℕ) → j < σ.n → frame_at (begun b c w v) c j ≡ Ask
+    begin_frame : (j : ℕ) → j < σ.n → frame_at (begun b c w v) c j ≡ Ask
     unfolding begun frame_at with_console
-    begin-frame j l = row_same b h.shape c j Ask cm l
+    begin_frame j l = row_same b h.shape c j Ask cm l
 
-    begin-beyond : (j : ℕ) → σ.n ≤ j → j < 5 → frame_at (begun b c w v) c j ≡ frame_at b c j
+    begin_beyond : (j : ℕ) → σ.n ≤ j → j < 5 → frame_at (begun b c w v) c j ≡ frame_at b c j
     unfolding begun frame_at with_console
-    begin-beyond j l i = row_beyond b h.shape c j Ask l
+    begin_beyond j l i = row_beyond b h.shape c j Ask l
 
-    begin-row : RowOk σ x₀ (frame_at (begun b c w v) c) (tags b)
+    begin_row : RowOk σ x₀ (frame_at (begun b c w v) c) (tags b)
     unfolding asks
-    begin-row = record {
+    begin_row = record {
       small = power_pos σ.n h.shape.allowed.n_5;
-      asking = λ p k l. rw (begin-frame k l, member_empty k (omega (arith, h.shape.allowed.n_5))) unasked;
+      asking = λ p k l. rw (begin_frame k l, member_empty k (omega (arith, h.shape.allowed.n_5))) unasked;
       telling = λ p. absurd (contra p refl);
     }
 
-    begin-floor : (t : ℕ) → Held σ (tags b) t → Floor σ x₀ (frame_at (begun b c w v) c) (tags b) t
+    begin_floor : (t : ℕ) → Held σ (tags b) t → Floor σ x₀ (frame_at (begun b c w v) c) (tags b) t
     unfolding asks
-    begin-floor t g = begun_floor σ x₀ (frame_at (begun b c w v) c) (tags b) t h.shape.allowed.n_5 refl refl begin-frame g
+    begin_floor t g = begun_floor σ x₀ (frame_at (begun b c w v) c) (tags b) t h.shape.allowed.n_5 refl refl begin_frame g
 
-    begin-best : K x₀.best x₀.value
+    begin_best : K x₀.best x₀.value
     unfolding asks
-    begin-best = fair.zero_in
+    begin_best = fair.zero_in
 
-    begin-ok-state : wanted_ok w v ≡ true → Passes σ (console_at (begun b c w v) c).state (console_at (begun b c w v) c)
+    begin_ok_state : wanted_ok w v ≡ true → Passes σ (console_at (begun b c w v) c).state (console_at (begun b c w v) c)
     unfolding asks
-    begin-ok-state good = console_state σ begin-console refl (asks_ok σ w v (console_at b c) h.shape.allowed good)
+    begin_ok_state good = console_state σ begin_console refl (asks_ok σ w v (console_at b c) h.shape.allowed good)
 
     pub begin_effect : wanted_ok w v ≡ true → Begins K σ c w b (begun b c w v)
     unfolding begun node_at with_console with_row
     begin_effect good = record {
-      ok = kept c b (begun b c w v) cm begin-side h h.tagged.node (rw begin-console begin-best) (begin-ok-state good)
-          (λ j l. rw (begin-frame j l) tt) begin-beyond (same_row σ begin-console (λ _ _. refl) begin-row);
-      beside = begin-side;
+      ok = kept c b (begun b c w v) cm begin_side h h.tagged.node (rw begin_console begin_best) (begin_ok_state good)
+          (λ j l. rw (begin_frame j l) tt) begin_beyond (same_row σ begin_console (λ _ _. refl) begin_row);
+      beside = begin_side;
       ups = λ _. refl;
-      state = begin-state;
-      floor = λ t g. same_floor σ begin-console (λ _ _. refl) (begin-floor t g);
+      state = begin_state;
+      floor = λ t g. same_floor σ begin_console (λ _ _. refl) (begin_floor t g);
     }
 
   -- ---- a console goes down
@@ -100,29 +100,29 @@ module _ {K : TagKind} {σ : Setup} (fair : Fair K σ) (b : Board) (c : ℕ) (h 
   abbrev pub downed : Board
   downed = with_console b c (rests Down (console_at b c))
 
-  down-console : console_at downed c ≡ rests Down (console_at b c)
-  down-console = console_same b h.shape c (rests Down (console_at b c)) c-below
+  down_console : console_at downed c ≡ rests Down (console_at b c)
+  down_console = console_same b h.shape c (rests Down (console_at b c)) c_below
 
   pub down_state : (console_at downed c).state ≡ Down
   unfolding rests
-  down_state = ap (λ (y : Console). y.state) down-console
+  down_state = ap (λ (y : Console). y.state) down_console
 
-  down-best : K (rests Down (console_at b c)).best (rests Down (console_at b c)).value
+  down_best : K (rests Down (console_at b c)).best (rests Down (console_at b c)).value
   unfolding rests
-  down-best = fair.zero_in
+  down_best = fair.zero_in
 
-  down-ok-state : Passes σ (console_at downed c).state (console_at downed c)
+  down_ok_state : Passes σ (console_at downed c).state (console_at downed c)
   unfolding rests
-  down-ok-state = console_state σ down-console refl (rests_ok σ (console_at b c)).1
+  down_ok_state = console_state σ down_console refl (rests_ok σ (console_at b c)).1
 
-  down-row : RowOk σ (rests Down (console_at b c)) (frame_at b c) (tags b)
+  down_row : RowOk σ (rests Down (console_at b c)) (frame_at b c) (tags b)
   unfolding rests
-  down-row = rest_row σ (rests Down (console_at b c)) (frame_at b c) (tags b) h.shape.allowed.n_5 refl refl
+  down_row = rest_row σ (rests Down (console_at b c)) (frame_at b c) (tags b) h.shape.allowed.n_5 refl refl
 
   pub down_ok : BoardOk K σ downed
   unfolding node_at frame_at with_console
-  down_ok = kept c b downed cm (beside_console b c (rests Down (console_at b c))) h h.tagged.node (rw down-console down-best) down-ok-state
-      (λ j l. h.tagged.frame c j cm l) (λ _ _ _. refl) (same_row σ down-console (λ _ _. refl) down-row)
+  down_ok = kept c b downed cm (beside_console b c (rests Down (console_at b c))) h h.tagged.node (rw down_console down_best) down_ok_state
+      (λ j l. h.tagged.frame c j cm l) (λ _ _ _. refl) (same_row σ down_console (λ _ _. refl) down_row)
 
   pub down_ups : (j : ℕ) → (node_at downed j).up ≡ (node_at b j).up
   unfolding node_at with_console
@@ -166,13 +166,13 @@ module _ (σ : Setup) where
   unfolding console_at console_in fresh_board
   fresh_console c = get_or_replicate_same 8 c idle_console
 
-  fresh-frame : (c k : ℕ) → frame_at (fresh_board σ) c k ≡ Nothing
+  fresh_frame : (c k : ℕ) → frame_at (fresh_board σ) c k ≡ Nothing
   unfolding frame_at frame_in fresh_board
-  fresh-frame c k = ap (λ (x : Cell). x.frame) (get_or_replicate_same 40 (cell_index c k) (cell_of Nothing))
+  fresh_frame c k = ap (λ (x : Cell). x.frame) (get_or_replicate_same 40 (cell_index c k) (cell_of Nothing))
 
-  fresh-state : Passes σ Idle idle_console
+  fresh_state : Passes σ Idle idle_console
   unfolding state_ok rest_ok is_zero mark_ok
-  fresh-state = record { state = refl; mark = refl }
+  fresh_state = record { state = refl; mark = refl }
 
   pub fresh_ok : {K : TagKind} → Fair K σ → Allowed σ → BoardOk K σ (fresh_board σ)
   unfolding fresh_board
@@ -181,11 +181,11 @@ module _ (σ : Setup) where
     tagged = record {
       node = λ k l. rw (fresh_node_lem k) fair.zero_in;
       best = λ c l. rw (fresh_console c) fair.zero_in;
-      frame = λ c k l i. rw (fresh-frame c k) tt;
+      frame = λ c k l i. rw (fresh_frame c k) tt;
     };
-    console_in_lem = λ c l. console_state σ (fresh_console c) refl fresh-state;
+    console_in_lem = λ c l. console_state σ (fresh_console c) refl fresh_state;
     node_out = λ k l. fresh_node_lem k;
     console_out = λ c l. fresh_console c;
-    frame_out = λ c k l o. fresh-frame c k;
+    frame_out = λ c k l o. fresh_frame c k;
     rows = λ c l. same_row σ (fresh_console c) (λ _ _. refl) (rest_row σ idle_console (frame_at (fresh_board σ) c) (tags (fresh_board σ)) al.n_5 refl refl);
   }

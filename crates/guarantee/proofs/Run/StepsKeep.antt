@@ -30,10 +30,10 @@ use Rattle.guarantee.proofs.Laws.Tags.{key}
 use Rattle.guarantee.proofs.Laws.Sizes.{Allowed}
 use Rattle.guarantee.proofs.Laws.States.{asking_waits, contra, turns}
 use Rattle.guarantee.proofs.Board.Shapes.{m_is, n_is}
-use Rattle.guarantee.proofs.Board.Views.{Begun, ConsolesDown, Ranged, Switched, begins, begun, consoles_down, delivered, did-begin, did-console, did-node, fresh_made, no-begin, no-console, no_node, nodes_down, nodes_up}
+use Rattle.guarantee.proofs.Board.Views.{Begun, ConsolesDown, Ranged, Switched, begins, begun, consoles_down, delivered, did_begin, did_console, did_node, fresh_made, no_begin, no_console, no_node, nodes_down, nodes_up}
 use Rattle.guarantee.proofs.Board.Boards.{BoardOk, Good, TagKind, beside_console, board_up}
 use Rattle.guarantee.proofs.Board.Consoles.{Fair, hears_kind, next_good}
-use Rattle.guarantee.proofs.Delivery.Effects.{Own, ends_now, goes_on, going, reply_kind, turns-now}
+use Rattle.guarantee.proofs.Delivery.Effects.{Own, ends_now, goes_on, going, reply_kind, turns_now}
 use Rattle.guarantee.proofs.Delivery.Deliveries.{Chooses, StepEffect, deliver_effect, effect, effect_ok, refusal}
 use Rattle.guarantee.proofs.Run.Starts.{Begins, begin_effect, down_ok, down_state, down_ups, fresh_console, fresh_node_lem, fresh_ok, node_ok_lem, node_side, node_ups}
 use Rattle.guarantee.proofs.Run.Moves.{Moves, OpOk, deliver_moves, down_moves, open_complete, open_is}
@@ -44,7 +44,7 @@ use Rattle.guarantee.proofs.Run.Invariant.{Inv, all_apart, inv_refused, inv_step
 
 own_waits : {σ : Setup} {c : ℕ} {b b' : Board} {o : Outcome} → Own σ c b b' o → is_waiting (console_at b' c).state ≡ true → is_waiting (console_at b c).state ≡ true
 own_waits (going e g) w = sym (ap is_waiting g.state) ∙ w
-own_waits {c = c} {b = b} (turns-now g) w = asking_waits (console_at b c).state g.asked
+own_waits {c = c} {b = b} (turns_now g) w = asking_waits (console_at b c).state g.asked
 own_waits (ends_now g) w = g.waits
 
 goes_accepted : (o : Outcome) → goes_on o ≡ true → accepted o ≡ true
@@ -58,17 +58,17 @@ goes_accepted Discarded e = refl
 
 own_accepted : {σ : Setup} {c : ℕ} {b b' : Board} {o : Outcome} → Own σ c b b' o → accepted o ≡ true
 own_accepted {o = o} (going e g) = goes_accepted o e
-own_accepted (turns-now g) = refl
+own_accepted (turns_now g) = refl
 own_accepted (ends_now g) = refl
 
 module _ {σ : Setup} (r : Run) (h : Inv σ r) where
   al : Allowed σ
   al = h.ok.shape.allowed
 
-  inv-deliver : (c k : ℕ) {a : Answer} → Ranged r.board c k a → StepEffect (Good σ) σ c r.board a → Inv σ (follow r (Deliver c k) a)
+  inv_deliver : (c k : ℕ) {a : Answer} → Ranged r.board c k a → StepEffect (Good σ) σ c r.board a → Inv σ (follow r (Deliver c k) a)
   unfolding noted up_after next_tag
-  inv-deliver c k v refusal = inv_refused r h
-  inv-deliver c k {a} v (effect cm f) = rw (own_accepted f.own) (inv_step r a.board l' r.up h (effect_ok known (deliver_effect (known_fair σ l' al) b c k known chosen v)) es
+  inv_deliver c k v refusal = inv_refused r h
+  inv_deliver c k {a} v (effect cm f) = rw (own_accepted f.own) (inv_step r a.board l' r.up h (effect_ok known (deliver_effect (known_fair σ l' al) b c k known chosen v)) es
       (λ d _ w. waits_beside f.beside (own_waits f.own) d w) (λ j l. f.ups j ∙ h.ups j l))
     where
       b : Board
@@ -99,12 +99,12 @@ module _ {σ : Setup} (r : Run) (h : Inv σ r) where
 
   -- ---- the begins
 
-  inv-begin : (s : Step) (c : ℕ) (w : Kind) (v : ℕ) → wanted_ok w v ≡ true → {a : Answer} → Begun r.board c w v a
+  inv_begin : (s : Step) (c : ℕ) (w : Kind) (v : ℕ) → wanted_ok w v ≡ true → {a : Answer} → Begun r.board c w v a
       → ((o : Outcome) → noted r.place s o r.ops ≡ opened r.place c (is_write w) ∷ r.ops) → up_after s r.up ≡ r.up
       → Inv σ (follow r s a)
   unfolding tally
-  inv-begin s c w v good no-begin q z = inv_refused r h
-  inv-begin s c w v good (did-begin l p) q z = rw (q Done, z) (record {
+  inv_begin s c w v good no_begin q z = inv_refused r h
+  inv_begin s c w v good (did_begin l p) q z = rw (q Done, z) (record {
     ok = board_up (known_cons new) g.ok;
     ops = new_ok also all_each (λ x y mv _. mv.ok) es h.ops;
     pairs = (record { above = λ e _. absurd (open_complete refl e) } also all_imp (λ x k. record { above = λ e _. record { while_open = λ _. g.floor (key x.tag) (k.held e); once_complete = λ q. absurd (open_complete refl q) } }) h.ops)
@@ -161,16 +161,16 @@ module _ {σ : Setup} (r : Run) (h : Inv σ r) where
   -- ---- the downs and the ups
 
   -- the board is kept whatever is known, and the log's operations move
-  inv-same : (b' : Board) (l : List Op) (u : ℕ → Bool) → Each (Moves σ r.place r.board b') r.ops l → ((K : TagKind) → Fair K σ → BoardOk K σ r.board → BoardOk K σ b')
+  inv_same : (b' : Board) (l : List Op) (u : ℕ → Bool) → Each (Moves σ r.place r.board b') r.ops l → ((K : TagKind) → Fair K σ → BoardOk K σ r.board → BoardOk K σ b')
       → ((c : ℕ) → c < σ.m → is_waiting (console_at b' c).state ≡ true → is_waiting (console_at r.board c).state ≡ true)
       → ((j : ℕ) → j < σ.n → (node_at b' j).up ≡ u j) → Inv σ (stepped r b' l u)
-  inv-same b' l u es f = inv_step r b' l u h (f (Known σ l) (known_fair σ l al) (board_up (known_moves es) h.ok)) es
+  inv_same b' l u es f = inv_step r b' l u h (f (Known σ l) (known_fair σ l al) (board_up (known_moves es) h.ok)) es
 
-  inv-node : (s : Step) (u : Bool) (k : ℕ) {a : Answer} → Switched u r.board k a
+  inv_node : (s : Step) (u : Bool) (k : ℕ) {a : Answer} → Switched u r.board k a
       → ((o : Outcome) → noted r.place s o r.ops ≡ r.ops) → ((j : ℕ) → up_after s r.up j ≡ cond (eqb j k) u (r.up j))
       → Inv σ (follow r s a)
-  inv-node s u k no_node q z = inv_refused r h
-  inv-node s u k (did-node l) q z = rw (q Done) (inv-same (with_node r.board k (with_up u (node_at r.board k))) r.ops (up_after s r.up)
+  inv_node s u k no_node q z = inv_refused r h
+  inv_node s u k (did_node l) q z = rw (q Done) (inv_same (with_node r.board k (with_up u (node_at r.board k))) r.ops (up_after s r.up)
       (all_apart al.n_5 (node_side r.board u k h.ok kn σ.m) (λ d l _. omega arith) h.ops)
       (λ _ fair q. node_ok_lem r.board u k q kn)
       (λ d l w. rw ((node_side r.board u k h.ok kn σ.m).console d (omega arith)) at w)
@@ -179,10 +179,10 @@ module _ {σ : Setup} (r : Run) (h : Inv σ r) where
       kn : k < σ.n
       kn = omega (arith, n_is h.ok.shape)
 
-  inv-down : (c : ℕ) {a : Answer} → ConsolesDown r.board c a → Inv σ (follow r (ConsoleDown c) a)
+  inv_down : (c : ℕ) {a : Answer} → ConsolesDown r.board c a → Inv σ (follow r (ConsoleDown c) a)
   unfolding noted up_after
-  inv-down c no-console = inv_refused r h
-  inv-down c (did-console l) = inv-same (with_console r.board c x) (map (of_console c losing) r.ops) r.up
+  inv_down c no_console = inv_refused r h
+  inv_down c (did_console l) = inv_same (with_console r.board c x) (map (of_console c losing) r.ops) r.up
       (each_map (of_console c losing) (λ x k. down_moves x al.n_5 (beside_console r.board c (rests Down (console_at r.board c))) is_down k) h.ops)
       (λ _ fair q. down_ok fair r.board c q cm)
       (λ d _ w. waits_beside {σ = σ} (beside_console r.board c x) (λ w. absurd (contra w (rw is_down))) d w)
@@ -201,13 +201,13 @@ module _ {σ : Setup} (r : Run) (h : Inv σ r) where
 
   pub inv_next : (s : Step) → Inv σ (next r s)
   unfolding next noted step up_after wanted_ok
-  inv_next (BeginRead c) = inv-begin (BeginRead c) c Read 0 refl (begins r.board c Read 0) (λ _. refl) refl
-  inv_next (BeginWrite c v) = inv-begin (BeginWrite c v) c Write v refl (begins r.board c Write v) (λ _. refl) refl
-  inv_next (Deliver c k) = inv-deliver c k (delivered r.board c k)
+  inv_next (BeginRead c) = inv_begin (BeginRead c) c Read 0 refl (begins r.board c Read 0) (λ _. refl) refl
+  inv_next (BeginWrite c v) = inv_begin (BeginWrite c v) c Write v refl (begins r.board c Write v) (λ _. refl) refl
+  inv_next (Deliver c k) = inv_deliver c k (delivered r.board c k)
       (deliver_effect (good_fair al) r.board c k (board_up (λ t v q. q.good) h.ok) (λ cm _ u v _ _ _ _ l. next_good σ c (hears (console_at r.board c) k u v) (console_at r.board c).wanted cm l) (delivered r.board c k))
-  inv_next (NodeDown k) = inv-node (NodeDown k) false k (nodes_down r.board k) (λ _. refl) (λ j. refl)
-  inv_next (ConsoleDown c) = inv-down c (consoles_down r.board c)
-  inv_next (NodeUp k) = inv-node (NodeUp k) true k (nodes_up r.board k) (λ _. refl) (λ j. refl)
+  inv_next (NodeDown k) = inv_node (NodeDown k) false k (nodes_down r.board k) (λ _. refl) (λ j. refl)
+  inv_next (ConsoleDown c) = inv_down c (consoles_down r.board c)
+  inv_next (NodeUp k) = inv_node (NodeUp k) true k (nodes_up r.board k) (λ _. refl) (λ j. refl)
 
 pub inv_after : {σ : Setup} (ss : List Step) (r : Run) → Inv σ r → Inv σ (after r ss)
 unfolding after
