@@ -1,10 +1,13 @@
 -- Laws of the order of tags by their keys, and of how one tag compares with another.
 use Prim.Native.Nat.{◌<◌, ◌≤◌}
 use mathlib.Core.Path.{◌≡◌, refl, sym}
-use mathlib.Core.Bool.{Bool, true, false, ◌&&◌, ◌||◌}
+use mathlib.Core.Bool.{Bool, true, false, cond, ◌&&◌, ◌||◌}
 use native.Mathlib.Omega.{arith}
 use borrow.Author.Tests.{ltb-true, ltb-false, eqb-true, eqb-false, lt-ltb, le-ltb}
 use lib.Dec.{ltb, eqb}
+use Rattle.std.specs.declared.cmp.Ordering.TheVariants.{Less, Equal, Greater}
+use Rattle.std.specs.Cmp.{nat_cmp_is}
+use Rattle.std.specs.Ordering.{MatchOrdering, nat_cmp}
 use Rattle.parts.specs.declared.Tag.{Tag}
 use Rattle.parts.specs.Limits.{max_consoles, max_ts}
 use Rattle.parts.specs.Tags.{zero_tag, greater, key, compared, is_higher, is_same}
@@ -29,6 +32,18 @@ greater_key a b ha hb = go (ltb b.ts a.ts) refl (eqb a.ts b.ts) refl (ltb b.cons
     go false e false f z g = ge (omega (arith, ltb-false, eqb-false a.ts b.ts f, ha.console_8, hb.console_8))
     go false e true f true g = lt (omega (arith, eqb-true, ltb-true))
     go false e true f false g = ge (omega (arith, eqb-true, ltb-false))
+
+-- two such tags compare as their keys do
+pub compared_key : (t b : Tag) → Small t → Small b → compared t b ≡ nat_cmp (key t) (key b)
+unfolding compared
+compared_key t b ht hb =
+    nat_cmp_is (key t) (key b) (compared t b) (go (greater t b) (greater_key t b ht hb) (greater b t) (greater_key b t hb ht))
+  where
+    go : (x : Bool) → x ≡ ltb (key b) (key t) → (y : Bool) → y ≡ ltb (key t) (key b)
+        → MatchOrdering (cond x Greater (cond y Less Equal)) (key t < key b) (key t ≡ key b) (key b < key t)
+    go true e y f = ltb-true (key b) (key t) (sym e)
+    go false e true f = ltb-true (key t) (key b) (sym f)
+    go false e false f = omega (arith, ltb-false (key b) (key t) (sym e), ltb-false (key t) (key b) (sym f))
 
 -- the keys of (0, 0), of (1, 1) and of the highest tag
 pub key_values : (key zero_tag ≡ 0) × (key (record { ts = 1; console = 1 }) ≡ 9) × (key (record { ts = max_ts; console = 7 }) ≡ 32000000007)

@@ -1,11 +1,11 @@
 -- Whether a step with this outcome is accepted, and what an outcome says in document 01's numbers: its number, its tag and its value. And the
 -- number of a comparison.
-use Rattle.std.specs.Prelude.{ℕ, Bool, true, false}
+use Rattle.std.specs.Prelude.{ℕ, Bool, true, false, Option, None, Some}
 use Rattle.parts.specs.declared.Tag.{Tag}
 use Rattle.parts.specs.declared.Outcome.{Outcome}
 use Rattle.parts.specs.declared.Outcome.TheVariants.{Refused, Done, Handed, Heard, Turned, Finished, Discarded}
-use Rattle.parts.specs.declared.Compared.{Compared}
-use Rattle.parts.specs.declared.Compared.TheVariants.{None, Lower, Same, Higher}
+use Rattle.std.specs.declared.cmp.Ordering.{Ordering}
+use Rattle.std.specs.declared.cmp.Ordering.TheVariants.{Less, Equal, Greater}
 use Rattle.parts.specs.Tags.{zero_tag}
 
 -- 'A step is accepted if it is not refused': by this go the log of a run, schedules, calls and lists
@@ -48,8 +48,8 @@ outcome_value (Finished t v) = v
 outcome_value Discarded = 0
 
 -- a comparison as a number, in the order of the paper's words: none, and 'lower, same or higher'
-abbrev pub compared_number : Compared → ℕ
+abbrev pub compared_number : Option Ordering → ℕ
 compared_number None = 0
-compared_number Lower = 1
-compared_number Same = 2
-compared_number Higher = 3
+compared_number (Some Less) = 1
+compared_number (Some Equal) = 2
+compared_number (Some Greater) = 3

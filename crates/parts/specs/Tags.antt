@@ -2,8 +2,8 @@
 -- (document 02, Paper 5), and how a reply's tag compares (Paper 3).
 use Rattle.std.specs.Prelude.{ℕ, ◌+◌, ◌*◌, Bool, true, false, cond, ◌&&◌, ◌||◌, ltb, eqb}
 use Rattle.parts.specs.declared.Tag.{Tag}
-use Rattle.parts.specs.declared.Compared.{Compared}
-use Rattle.parts.specs.declared.Compared.TheVariants.{None, Lower, Same, Higher}
+use Rattle.std.specs.declared.cmp.Ordering.{Ordering}
+use Rattle.std.specs.declared.cmp.Ordering.TheVariants.{Less, Equal, Greater}
 
 -- tag (0, 0)
 abbrev pub zero_tag : Tag
@@ -18,17 +18,15 @@ abbrev pub key : Tag → ℕ
 key t = t.ts * 8 + t.console
 
 -- 'lower, same or higher (its tag against the old best)'
-unfoldable pub compared : Tag → Tag → Compared
-compared t best = cond (greater t best) Higher (cond (greater best t) Lower Same)
+unfoldable pub compared : Tag → Tag → Ordering
+compared t best = cond (greater t best) Greater (cond (greater best t) Less Equal)
 
-abbrev pub is_higher : Compared → Bool
-is_higher None = false
-is_higher Lower = false
-is_higher Same = false
-is_higher Higher = true
+abbrev pub is_higher : Ordering → Bool
+is_higher Less = false
+is_higher Equal = false
+is_higher Greater = true
 
-abbrev pub is_same : Compared → Bool
-is_same None = false
-is_same Lower = false
-is_same Same = true
-is_same Higher = false
+abbrev pub is_same : Ordering → Bool
+is_same Less = false
+is_same Equal = true
+is_same Greater = false

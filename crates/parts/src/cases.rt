@@ -8,10 +8,7 @@ impl Release {
     pub fn is_two(self) -> bool
         ensures { result ≡ is_two self }
     {
-        match self {
-            Release::One => false,
-            Release::Two => true,
-        }
+        matches!(self, Release::Two)
     }
 }
 
@@ -19,10 +16,7 @@ impl Kind {
     pub fn is_write(self) -> bool
         ensures { result ≡ is_write self }
     {
-        match self {
-            Kind::Read => false,
-            Kind::Write => true,
-        }
+        matches!(self, Kind::Write)
     }
 }
 
@@ -30,57 +24,32 @@ impl State {
     pub fn is_idle(self) -> bool
         ensures { result ≡ is_idle self }
     {
-        match self {
-            State::Idle => true,
-            State::Asking(_) => false,
-            State::Telling(_) => false,
-            State::Down => false,
-        }
+        matches!(self, State::Idle)
     }
 
     pub fn is_asking(self) -> bool
         ensures { result ≡ is_asking self }
     {
-        match self {
-            State::Idle => false,
-            State::Asking(_) => true,
-            State::Telling(_) => false,
-            State::Down => false,
-        }
+        matches!(self, State::Asking(_))
     }
 
     pub fn is_telling(self) -> bool
         ensures { result ≡ is_telling self }
     {
-        match self {
-            State::Idle => false,
-            State::Asking(_) => false,
-            State::Telling(_) => true,
-            State::Down => false,
-        }
+        matches!(self, State::Telling(_))
     }
 
     pub fn is_up(self) -> bool
         ensures { result ≡ is_up self }
     {
-        match self {
-            State::Idle => true,
-            State::Asking(_) => true,
-            State::Telling(_) => true,
-            State::Down => false,
-        }
+        !matches!(self, State::Down)
     }
 
     // Whether the console's operation is a write.
     pub fn is_writing(self) -> bool
         ensures { result ≡ writes self }
     {
-        match self {
-            State::Idle => false,
-            State::Asking(w) => w.is_write(),
-            State::Telling(w) => w.is_write(),
-            State::Down => false,
-        }
+        matches!(self, State::Asking(Kind::Write) | State::Telling(Kind::Write))
     }
 
     // The same operation, telling.
@@ -88,10 +57,8 @@ impl State {
         ensures { result ≡ to_telling self }
     {
         match self {
-            State::Idle => State::Idle,
-            State::Asking(w) => State::Telling(w),
-            State::Telling(w) => State::Telling(w),
-            State::Down => State::Down,
+            State::Asking(kind) => State::Telling(kind),
+            _ => self,
         }
     }
 }
@@ -100,24 +67,13 @@ impl Frame {
     pub fn is_nothing(self) -> bool
         ensures { result ≡ is_nothing self }
     {
-        match self {
-            Frame::Nothing => true,
-            Frame::Ask => false,
-            Frame::Reply(_, _) => false,
-            Frame::Put(_, _) => false,
-            Frame::Ack => false,
-        }
+        matches!(self, Frame::Nothing)
     }
+
     // Whether it goes to the node, as ask and put do, and not to the console.
     pub fn goes_to_node(self) -> bool
         ensures { result ≡ goes_to_node self }
     {
-        match self {
-            Frame::Nothing => false,
-            Frame::Ask => true,
-            Frame::Reply(_, _) => false,
-            Frame::Put(_, _) => true,
-            Frame::Ack => false,
-        }
+        matches!(self, Frame::Ask | Frame::Put(_, _))
     }
 }

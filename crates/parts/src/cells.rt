@@ -13,13 +13,9 @@ pub fn cell_index(c: ConsoleId, k: NodeId) -> usize
 }
 
 // The frame in the cell of console c and node k.
+#[tactic(auto, unfolding(crate::specs::Parts::frame_in))]
 pub fn frame_in(cells: [Cell; CELLS], c: ConsoleId, k: NodeId) -> Frame
     ensures { result ≡ frame_in cells c.0 k.0 }
 {
-    let at = cell_index(c, k);
-    if at >= CELLS {
-        return Frame::Nothing;
-    }
-    let x = cells[at];
-    x.frame
+    cells.get(cell_index(c, k)).map_or(Frame::Nothing, |cell| cell.frame)
 }

@@ -17,12 +17,9 @@ impl Console {
 }
 
 // Console c; from 8 on an idle one.
+#[tactic(auto, unfolding(crate::specs::Parts::console_in))]
 pub fn console_in(consoles: [Console; CONSOLES], c: ConsoleId) -> Console
     ensures { result ≡ console_in consoles c.0 }
 {
-    let i = c.0 as usize;
-    if i >= CONSOLES {
-        return Console::IDLE;
-    }
-    consoles[i]
+    consoles.get(c.0 as usize).copied().unwrap_or(Console::IDLE)
 }

@@ -112,16 +112,6 @@ pub enum Outcome {
     Discarded,
 }
 
-// How the tag of a reply compares with the best tag that its console had before (document 02, Paper 3). None is for a step
-// that takes no reply in.
-#[derive(Clone, Copy)]
-pub enum Compared {
-    None,
-    Lower,
-    Same,
-    Higher,
-}
-
 pub mod answered;
 pub mod cases;
 pub mod cells;

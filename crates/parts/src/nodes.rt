@@ -14,12 +14,9 @@ impl Node {
 }
 
 // Node k; from 5 on a fresh node.
+#[tactic(auto, unfolding(crate::specs::Parts::node_in))]
 pub fn node_in(nodes: [Node; NODES], k: NodeId) -> Node
     ensures { result ≡ node_in nodes k.0 }
 {
-    let i = k.0 as usize;
-    if i >= NODES {
-        return Node::FRESH;
-    }
-    nodes[i]
+    nodes.get(k.0 as usize).copied().unwrap_or(Node::FRESH)
 }

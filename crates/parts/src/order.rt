@@ -1,10 +1,12 @@
 // The order of tags by one number for each, and how one compares with another.
 ghost use Rattle.std.specs.Prelude.{◌≡◌, ◌<◌};
 ghost use Rattle.parts.specs.Limits.{max_consoles};
-ghost use Rattle.parts.specs.Tags.{greater, key, compared, is_higher, is_same};
+ghost use Rattle.parts.specs.Tags.{greater, key, compared};
 
-use crate::{Compared, Tag};
+use crate::Tag;
+use std::cmp::Ordering;
 
+// No PartialOrd: past console number 7 two tags may have one number, and no order makes them equal then.
 impl Tag {
     // The tag before any write.
     pub const ZERO: Tag = Tag { ts: 0, console: 0 };
@@ -13,7 +15,7 @@ impl Tag {
     fn key(self) -> u64
         ensures { result ≡ key self }
     {
-        self.ts as u64 * 8 + self.console as u64
+        u64::from(self.ts) * 8 + u64::from(self.console)
     }
 
     // Whether this tag is greater than b. Document 01 compares tags only where both console numbers are below 8;
@@ -25,39 +27,9 @@ impl Tag {
     }
 
     // How this tag compares with the tag best, where both console numbers are below 8.
-    pub fn compared_with(self, best: Tag) -> Compared
+    pub fn compared_with(self, best: Tag) -> Ordering
         ensures { self.console < max_consoles → best.console < max_consoles → result ≡ compared self best }
     {
-        if self.is_greater(best) {
-            return Compared::Higher;
-        }
-        if best.is_greater(self) {
-            return Compared::Lower;
-        }
-        Compared::Same
-    }
-}
-
-impl Compared {
-    pub fn is_higher(self) -> bool
-        ensures { result ≡ is_higher self }
-    {
-        match self {
-            Compared::None => false,
-            Compared::Lower => false,
-            Compared::Same => false,
-            Compared::Higher => true,
-        }
-    }
-
-    pub fn is_same(self) -> bool
-        ensures { result ≡ is_same self }
-    {
-        match self {
-            Compared::None => false,
-            Compared::Lower => false,
-            Compared::Same => true,
-            Compared::Higher => false,
-        }
+        self.key().cmp(&best.key())
     }
 }

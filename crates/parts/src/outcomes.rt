@@ -2,22 +2,15 @@
 ghost use Rattle.std.specs.Prelude.{◌≡◌};
 ghost use Rattle.parts.specs.Outcomes.{accepted, outcome_number, outcome_tag, outcome_value, compared_number};
 
-use crate::{Compared, Outcome, Tag};
+use crate::{Outcome, Tag};
+use std::cmp::Ordering;
 
 impl Outcome {
     // Whether the step was accepted: not refused.
     pub fn is_accepted(self) -> bool
         ensures { result ≡ accepted self }
     {
-        match self {
-            Outcome::Refused => false,
-            Outcome::Done => true,
-            Outcome::Handed => true,
-            Outcome::Heard => true,
-            Outcome::Turned => true,
-            Outcome::Finished(_, _) => true,
-            Outcome::Discarded => true,
-        }
+        !matches!(self, Outcome::Refused)
     }
 
     // The number that an outcome is written as.
@@ -40,13 +33,8 @@ impl Outcome {
         ensures { result ≡ outcome_tag self }
     {
         match self {
-            Outcome::Refused => Tag::ZERO,
-            Outcome::Done => Tag::ZERO,
-            Outcome::Handed => Tag::ZERO,
-            Outcome::Heard => Tag::ZERO,
-            Outcome::Turned => Tag::ZERO,
-            Outcome::Finished(t, _) => t,
-            Outcome::Discarded => Tag::ZERO,
+            Outcome::Finished(tag, _) => tag,
+            _ => Tag::ZERO,
         }
     }
 
@@ -55,26 +43,20 @@ impl Outcome {
         ensures { result ≡ outcome_value self }
     {
         match self {
-            Outcome::Refused => 0,
-            Outcome::Done => 0,
-            Outcome::Handed => 0,
-            Outcome::Heard => 0,
-            Outcome::Turned => 0,
-            Outcome::Finished(_, v) => v,
-            Outcome::Discarded => 0,
+            Outcome::Finished(_, value) => value,
+            _ => 0,
         }
     }
 }
 
-impl Compared {
-    pub fn number(self) -> u32
-        ensures { result ≡ compared_number self }
-    {
-        match self {
-            Compared::None => 0,
-            Compared::Lower => 1,
-            Compared::Same => 2,
-            Compared::Higher => 3,
-        }
+// The number that a comparison is written as: 0 for none, then lower, same and higher.
+pub fn compared_number(compared: Option<Ordering>) -> u32
+    ensures { result ≡ compared_number compared }
+{
+    match compared {
+        None => 0,
+        Some(Ordering::Less) => 1,
+        Some(Ordering::Equal) => 2,
+        Some(Ordering::Greater) => 3,
     }
 }
