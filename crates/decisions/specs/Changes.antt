@@ -7,8 +7,9 @@ use Rattle.parts.specs.declared.Kind.{Kind}
 use Rattle.parts.specs.declared.State.{State}
 use Rattle.parts.specs.declared.State.TheVariants.{Asking}
 use Rattle.parts.specs.declared.Console.{Console}
-use Rattle.parts.specs.declared.Compared.{Compared}
-use Rattle.parts.specs.Tags.{zero_tag, greater, compared, is_same}
+use Rattle.std.specs.declared.cmp.Ordering.{Ordering}
+use Rattle.std.specs.Ordering.{is_eq}
+use Rattle.parts.specs.Tags.{zero_tag, greater, compared}
 use Rattle.parts.specs.AnsweredSet.{member, insert}
 use Rattle.parts.specs.Parts.{writes, to_telling}
 use Rattle.decisions.specs.declared.TakenIn.{TakenIn}
@@ -39,8 +40,8 @@ awaits p x k = p x.state && not (member x.answered k)
 
 -- the mark 'all alike so far', 'set by the first answer of asking and cleared by any differing tag': once the reply that
 -- compared so is taken in
-unfoldable pub still_alike : Console → Compared → Bool
-still_alike x how = eqb x.answered 0 || x.alike && is_same how
+unfoldable pub still_alike : Console → Ordering → Bool
+still_alike x how = eqb x.answered 0 || x.alike && is_eq how
 
 -- Reply: 'the node joins the answered set, and best becomes the greater of best and the reply; on equal tags best keeps its value'
 unfoldable pub hears : Console → ℕ → Tag → ℕ → Console

@@ -4,7 +4,7 @@ ghost use Rattle.parts.specs.Parts.{is_asking, is_telling};
 ghost use Rattle.decisions.specs.Changes.{rests, asks, awaits};
 
 use parts::answered::is_member;
-use parts::{Console, Kind, NodeId, State, Tag};
+use parts::{Console, Kind, NodeId, State};
 
 // The console without an operation, in state s.
 #[tactic(auto, unfolding(crate::specs::Changes::rests))]
@@ -13,11 +13,7 @@ pub fn rest(s: State, x: Console) -> Console
 {
     Console {
         state: s,
-        wanted: 0,
-        answered: 0,
-        best: Tag::ZERO,
-        value: 0,
-        alike: false,
+        ..Console::IDLE
     }
 }
 
@@ -29,10 +25,7 @@ pub fn ask(w: Kind, v: u32, x: Console) -> Console
     Console {
         state: State::Asking(w),
         wanted: v,
-        answered: 0,
-        best: Tag::ZERO,
-        value: 0,
-        alike: false,
+        ..Console::IDLE
     }
 }
 
@@ -41,12 +34,7 @@ pub fn ask(w: Kind, v: u32, x: Console) -> Console
 pub fn awaits_reply(x: Console, k: NodeId) -> bool
     ensures { result ≡ awaits is_asking x k.0 }
 {
-    let s = x.state;
-    if !s.is_asking() {
-        return false;
-    }
-    let set = x.answered;
-    !is_member(set, k)
+    x.state.is_asking() && !is_member(x.answered, k)
 }
 
 // Whether the console tells and has no answer yet from node k.
@@ -54,9 +42,5 @@ pub fn awaits_reply(x: Console, k: NodeId) -> bool
 pub fn awaits_ack(x: Console, k: NodeId) -> bool
     ensures { result ≡ awaits is_telling x k.0 }
 {
-    let s = x.state;
-    if !s.is_telling() {
-        return false;
-    }
-    !is_member(x.answered, k)
+    x.state.is_telling() && !is_member(x.answered, k)
 }

@@ -9,16 +9,13 @@ ghost use Rattle.decisions.specs.Deliver.{is_withdrawn, on_ask, on_put, discards
 use crate::consoles::{awaits_ack, awaits_reply, rest};
 use crate::hearing::{hear_ack, hear_reply};
 use crate::nodes::take_put;
-use crate::refusals::{
-    NO_FRAME, NO_SUCH_CONSOLE, NO_SUCH_NODE, NODE_IS_DOWN, NOT_WELL_FORMED, TS_USED_UP,
-};
+use crate::refusals::Refusal;
 use crate::steps::accept;
 use crate::telling::tell;
 use crate::{Decision, Part, Sent, TakenIn};
 use parts::answered::set_size;
-use parts::{
-    Compared, Console, ConsoleId, Frame, MAX_TS, Node, NodeId, Outcome, Setup, State, Tag,
-};
+use parts::{Console, ConsoleId, Frame, MAX_TS, Node, NodeId, Outcome, Setup, State, Tag};
+use std::cmp::Ordering;
 
 // The frame f of console c, which is x, and node k, which is y, is delivered; formed says whether the board is well formed. Promised
 // if the tags may be compared; that need hold only on a well-formed board that has console c and node k.
@@ -34,18 +31,10 @@ pub fn delivered(
 ) -> Decision
     ensures { (formed ≡ true → c.0 < setup.m → k.0 < setup.n → Comparable k.0 x y f) → result ≡ delivered formed setup c.0 k.0 x y f }
 {
-    if !formed {
-        return Decision::Refuse(NOT_WELL_FORMED);
-    }
-    if c.0 >= setup.m {
-        return Decision::Refuse(NO_SUCH_CONSOLE);
-    }
-    if k.0 >= setup.n {
-        return Decision::Refuse(NO_SUCH_NODE);
-    }
-    if f.is_nothing() {
-        return Decision::Refuse(NO_FRAME);
-    }
+    Refusal::NotWellFormed.unless(formed)?;
+    Refusal::NoSuchConsole.unless(c.0 < setup.m)?;
+    Refusal::NoSuchNode.unless(k.0 < setup.n)?;
+    Refusal::NoFrame.unless(!f.is_nothing())?;
     if is_withdrawn(x, f) {
         return discard();
     }
@@ -56,11 +45,7 @@ pub fn delivered(
 fn is_withdrawn(x: Console, f: Frame) -> bool
     ensures { result ≡ is_withdrawn x f }
 {
-    if !f.goes_to_node() {
-        return false;
-    }
-    let s = x.state;
-    !s.is_up()
+    f.goes_to_node() && !x.state.is_up()
 }
 
 // Question 8 has refused an empty cell, and a frame that is withdrawn does not come here.
@@ -81,15 +66,12 @@ fn deliver_frame(setup: Setup, c: ConsoleId, k: NodeId, x: Console, y: Node, f: 
 fn deliver_ask(y: Node) -> Decision
     ensures { result ≡ on_ask y }
 {
-    if !y.up {
-        return Decision::Refuse(NODE_IS_DOWN);
-    }
-    let t = y.tag;
+    Refusal::NodeIsDown.unless(y.up)?;
     accept(
-        Compared::None,
+        None,
         Outcome::Handed,
         Part::Neither,
-        Sent::One(Frame::Reply(t, y.value)),
+        Sent::One(Frame::Reply(y.tag, y.value)),
     )
 }
 
@@ -97,11 +79,9 @@ fn deliver_ask(y: Node) -> Decision
 fn deliver_put(y: Node, t: Tag, v: u32) -> Decision
     ensures { y.tag.console < max_consoles → t.console < max_consoles → result ≡ on_put y t v }
 {
-    if !y.up {
-        return Decision::Refuse(NODE_IS_DOWN);
-    }
+    Refusal::NodeIsDown.unless(y.up)?;
     accept(
-        Compared::None,
+        None,
         Outcome::Handed,
         Part::NodeTo(take_put(y, t, v)),
         Sent::One(Frame::Ack),
@@ -124,16 +104,14 @@ fn take_reply(setup: Setup, c: ConsoleId, reply: TakenIn) -> Decision
     ensures { result ≡ replied setup c.0 reply }
 {
     let x = reply.console;
-    let how = reply.compared;
+    let how = Some(reply.compared);
     if set_size(x.answered) < setup.ask_size() {
         return hear(how, x);
     }
     if finishes_early(setup, x) {
         return finish(how, x);
     }
-    if !has_next(x) {
-        return Decision::Refuse(TS_USED_UP);
-    }
+    Refusal::TsUsedUp.unless(has_next(x))?;
     turn(c, how, x)
 }
 
@@ -142,26 +120,14 @@ fn take_reply(setup: Setup, c: ConsoleId, reply: TakenIn) -> Decision
 fn finishes_early(setup: Setup, x: Console) -> bool
     ensures { result ≡ finishes_early setup x }
 {
-    let release = setup.release;
-    if !release.is_two() {
-        return false;
-    }
-    let s = x.state;
-    if s.is_writing() {
-        return false;
-    }
-    x.alike
+    setup.release.is_two() && !x.state.is_writing() && x.alike
 }
 
 // Question 10: whether a write's timestamp can grow; x is the console with the reply taken in.
 fn has_next(x: Console) -> bool
     ensures { result ≡ (writes x.state implies ltb x.best.ts max_ts) }
 {
-    let s = x.state;
-    if !s.is_writing() {
-        return true;
-    }
-    x.best.ts < MAX_TS
+    !x.state.is_writing() || x.best.ts < MAX_TS
 }
 
 #[tactic(auto, unfolding(crate::specs::Deliver::on_ack))]
@@ -180,29 +146,28 @@ fn take_ack(setup: Setup, x: Console) -> Decision
     ensures { result ≡ acknowledged setup x }
 {
     if set_size(x.answered) < setup.tell_size() {
-        return hear(Compared::None, x);
+        return hear(None, x);
     }
-    finish(Compared::None, x)
+    finish(None, x)
 }
 
 // The console, with the reply taken in, turns, where a write's timestamp can grow.
 #[tactic(auto, unfolding(crate::specs::Deliver::turned))]
-fn turn(c: ConsoleId, how: Compared, x: Console) -> Decision
+fn turn(c: ConsoleId, how: Option<Ordering>, x: Console) -> Decision
     ensures { (writes x.state ≡ true → x.best.ts < max_ts) → result ≡ turned c.0 how x }
 {
     let z = tell(c, x);
-    let t = z.best;
     accept(
         how,
         Outcome::Turned,
         Part::ConsoleTo(z),
-        Sent::Row(Frame::Put(t, z.value)),
+        Sent::Row(Frame::Put(z.best, z.value)),
     )
 }
 
 // The cell empties, and the console is x.
 #[tactic(auto, unfolding(crate::specs::Deliver::heard))]
-fn hear(how: Compared, x: Console) -> Decision
+fn hear(how: Option<Ordering>, x: Console) -> Decision
     ensures { result ≡ heard how x }
 {
     accept(
@@ -215,13 +180,12 @@ fn hear(how: Compared, x: Console) -> Decision
 
 // The cell empties, and the console, which is x, has finished its operation.
 #[tactic(auto, unfolding(crate::specs::Deliver::finished))]
-fn finish(how: Compared, x: Console) -> Decision
+fn finish(how: Option<Ordering>, x: Console) -> Decision
     ensures { result ≡ finished how x }
 {
-    let t = x.best;
     accept(
         how,
-        Outcome::Finished(t, x.value),
+        Outcome::Finished(x.best, x.value),
         Part::ConsoleTo(rest(State::Idle, x)),
         Sent::One(Frame::Nothing),
     )
@@ -233,7 +197,7 @@ fn discard() -> Decision
     ensures { result ≡ discards }
 {
     accept(
-        Compared::None,
+        None,
         Outcome::Discarded,
         Part::Neither,
         Sent::One(Frame::Nothing),

@@ -5,54 +5,40 @@ ghost use Rattle.decisions.specs.Changes.{still_alike, takes_in, acked};
 
 use crate::TakenIn;
 use parts::answered::with_member;
-use parts::{Compared, Console, NodeId, Tag};
+use parts::{Console, NodeId, Tag};
+use std::cmp::Ordering;
 
 // The mark once a reply that compared so is taken in.
 #[tactic(auto, unfolding(crate::specs::Changes::still_alike))]
-fn is_still_alike(x: Console, how: Compared) -> bool
+fn is_still_alike(x: Console, how: Ordering) -> bool
     ensures { result ≡ still_alike x how }
 {
-    if x.answered == 0 {
-        return true;
-    }
-    if !x.alike {
-        return false;
-    }
-    how.is_same()
+    x.answered == 0 || x.alike && how.is_eq()
 }
 
 // A reply of node k is taken in: where a byte has room for k, and the tags may be compared.
 pub fn hear_reply(x: Console, k: NodeId, t: Tag, v: u32) -> TakenIn
     ensures { k.0 < 8 → x.best.console < max_consoles → t.console < max_consoles → result ≡ takes_in x k.0 t v }
 {
-    let s = x.state;
-    let best = x.best;
-    let set = with_member(x.answered, k);
-    let how = t.compared_with(best);
-    let alike = is_still_alike(x, how);
-    if how.is_higher() {
+    let compared = t.compared_with(x.best);
+    let heard = Console {
+        answered: with_member(x.answered, k),
+        alike: is_still_alike(x, compared),
+        ..x
+    };
+    if compared.is_gt() {
         return TakenIn {
             console: Console {
-                state: s,
-                wanted: x.wanted,
-                answered: set,
                 best: t,
                 value: v,
-                alike: alike,
+                ..heard
             },
-            compared: how,
+            compared,
         };
     }
     TakenIn {
-        console: Console {
-            state: s,
-            wanted: x.wanted,
-            answered: set,
-            best: best,
-            value: x.value,
-            alike: alike,
-        },
-        compared: how,
+        console: heard,
+        compared,
     }
 }
 
@@ -61,15 +47,8 @@ pub fn hear_reply(x: Console, k: NodeId, t: Tag, v: u32) -> TakenIn
 pub fn hear_ack(x: Console, k: NodeId) -> Console
     ensures { k.0 < 8 → result ≡ acked x k.0 }
 {
-    let s = x.state;
-    let best = x.best;
-    let set = with_member(x.answered, k);
     Console {
-        state: s,
-        wanted: x.wanted,
-        answered: set,
-        best: best,
-        value: x.value,
-        alike: x.alike,
+        answered: with_member(x.answered, k),
+        ..x
     }
 }

@@ -1,13 +1,15 @@
 // How the steps change a node and a console, and what each step but fresh comes to. These functions are for the board's steps.
 #![tactic(auto)]
 
-use parts::{Compared, Console, Frame, Node, Outcome};
+use parts::{Console, Frame, Node, Outcome};
+use refusals::Refusal;
+use std::cmp::Ordering;
 
 // A reply taken in: the console with it, and how its tag compared with the best tag before it.
 #[derive(Clone, Copy)]
 pub struct TakenIn {
     pub console: Console,
-    pub compared: Compared,
+    pub compared: Ordering,
 }
 
 // The part that a step changes beside the cells: neither, its console or its node.
@@ -27,21 +29,18 @@ pub enum Sent {
     Row(Frame),
 }
 
-// An accepted step: its outcome, how the tag of a reply that it took in compared, and what becomes of the board's parts and cells.
+// An accepted step: its outcome, how the tag of a reply compared (document 02, Paper 3; None: it took none in), and what
+// becomes of the board's parts and cells.
 #[derive(Clone, Copy)]
 pub struct Change {
     pub outcome: Outcome,
-    pub compared: Compared,
+    pub compared: Option<Ordering>,
     pub part: Part,
     pub sent: Sent,
 }
 
-// What a step comes to: the number of the question that refuses it, or what it changes.
-#[derive(Clone, Copy)]
-pub enum Decision {
-    Refuse(u32),
-    Accept(Change),
-}
+// What a step comes to: its refusal, or what it changes.
+pub type Decision = Result<Change, Refusal>;
 
 pub mod consoles;
 pub mod delivery;

@@ -10,12 +10,7 @@ use parts::{Node, Tag};
 pub fn set_up(x: Node, up: bool) -> Node
     ensures { result ≡ with_up up x }
 {
-    let t = x.tag;
-    Node {
-        up: up,
-        tag: t,
-        value: x.value,
-    }
+    Node { up, ..x }
 }
 
 // The node after a put: with the greater tag and its value, where the tags may be compared.
@@ -23,13 +18,12 @@ pub fn set_up(x: Node, up: bool) -> Node
 pub fn take_put(x: Node, t: Tag, v: u32) -> Node
     ensures { x.tag.console < max_consoles → t.console < max_consoles → result ≡ taken x t v }
 {
-    let own = x.tag;
-    if t.is_greater(own) {
-        return Node {
-            up: x.up,
-            tag: t,
-            value: v,
-        };
+    if !t.is_greater(x.tag) {
+        return x;
     }
-    x
+    Node {
+        tag: t,
+        value: v,
+        ..x
+    }
 }

@@ -1,30 +1,40 @@
-// The refusals' numbers. Document 01's questions have 1 to 10: an answer's refusal is that of the first question answered no.
-pub const NOT_WELL_FORMED: u32 = 1;
+// The refusals.
+ghost use Rattle.std.specs.Prelude.{◌≡◌, true, false, MatchResult};
+ghost use Rattle.decisions.specs.Refusals.{number_of};
 
-pub const BAD_NODE_COUNT: u32 = 2;
+// Why a step is refused. Document 01's questions have 1 to 10: an answer's refusal is that of the first question answered
+// no. Those of a line that is no step (document 02, Paper 1) come before all of them.
+#[derive(Clone, Copy, Debug, PartialEq, Eq)]
+pub enum Refusal {
+    NotWellFormed = 1,
+    BadNodeCount = 2,
+    BadConsoleCount = 3,
+    NoSuchConsole = 4,
+    NoSuchNode = 5,
+    ConsoleIsDown = 6,
+    ConsoleBusy = 7,
+    NoFrame = 8,
+    NodeIsDown = 9,
+    TsUsedUp = 10,
+    NotThreeFields = 11,
+    NoSuchVerb = 12,
+    LineTooLong = 13,
+    // Node up's own (document 02, Paper 2).
+    NodeIsUp = 14,
+}
 
-pub const BAD_CONSOLE_COUNT: u32 = 3;
+impl Refusal {
+    // The number that a refusal is written as.
+    pub fn number(self) -> u32
+        ensures { result ≡ number_of self }
+    {
+        self as u32
+    }
 
-pub const NO_SUCH_CONSOLE: u32 = 4;
-
-pub const NO_SUCH_NODE: u32 = 5;
-
-pub const CONSOLE_IS_DOWN: u32 = 6;
-
-pub const CONSOLE_BUSY: u32 = 7;
-
-pub const NO_FRAME: u32 = 8;
-
-pub const NODE_IS_DOWN: u32 = 9;
-
-pub const TS_USED_UP: u32 = 10;
-
-// Those of a line that is no step (document 02, Paper 1), all before document 01's questions.
-pub const NOT_THREE_FIELDS: u32 = 11;
-
-pub const NO_SUCH_VERB: u32 = 12;
-
-pub const LINE_TOO_LONG: u32 = 13;
-
-// Node up's own (document 02, Paper 2).
-pub const NODE_IS_UP: u32 = 14;
+    // The refusal, unless its question is answered yes.
+    pub fn unless(self, yes: bool) -> Result<(), Refusal>
+        ensures { MatchResult result (λ _. yes ≡ true) (λ refusal. (yes ≡ false) × (refusal ≡ self)) }
+    {
+        if yes { Ok(()) } else { Err(self) }
+    }
+}

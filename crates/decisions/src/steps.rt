@@ -1,35 +1,24 @@
 // What the steps but for fresh and deliver come to: the questions in their order, then the change of one part. Of the first question the
 // answer is handed in: formed says whether the board is well formed.
-ghost use Rattle.std.specs.Prelude.{◌≡◌};
+ghost use Rattle.std.specs.Prelude.{◌≡◌, None};
 ghost use Rattle.decisions.specs.Steps.{accept, begins, ends, falls, rises};
 
 use crate::consoles::{ask, rest};
 use crate::nodes::set_up;
-use crate::refusals::{
-    CONSOLE_BUSY, CONSOLE_IS_DOWN, NO_SUCH_CONSOLE, NO_SUCH_NODE, NODE_IS_DOWN, NODE_IS_UP,
-    NOT_WELL_FORMED,
-};
+use crate::refusals::Refusal;
 use crate::{Change, Decision, Part, Sent};
-use parts::{Compared, Console, ConsoleId, Frame, Kind, Node, NodeId, Outcome, Setup, State};
+use parts::{Console, ConsoleId, Frame, Kind, Node, NodeId, Outcome, Setup, State};
+use std::cmp::Ordering;
 
 // Console c, which is x, begins an operation of either kind; v is the wanted value.
 #[tactic(auto, unfolding(crate::specs::Steps::begins, crate::specs::Questions::guarded))]
 pub fn begin(formed: bool, setup: Setup, c: ConsoleId, w: Kind, v: u32, x: Console) -> Decision
     ensures { result ≡ begins formed setup c.0 w v x }
 {
-    if !formed {
-        return Decision::Refuse(NOT_WELL_FORMED);
-    }
-    if c.0 >= setup.m {
-        return Decision::Refuse(NO_SUCH_CONSOLE);
-    }
-    let s = x.state;
-    if !s.is_up() {
-        return Decision::Refuse(CONSOLE_IS_DOWN);
-    }
-    if !s.is_idle() {
-        return Decision::Refuse(CONSOLE_BUSY);
-    }
+    Refusal::NotWellFormed.unless(formed)?;
+    Refusal::NoSuchConsole.unless(c.0 < setup.m)?;
+    Refusal::ConsoleIsDown.unless(x.state.is_up())?;
+    Refusal::ConsoleBusy.unless(x.state.is_idle())?;
     done(Part::ConsoleTo(ask(w, v, x)), Sent::Row(Frame::Ask))
 }
 
@@ -38,16 +27,9 @@ pub fn begin(formed: bool, setup: Setup, c: ConsoleId, w: Kind, v: u32, x: Conso
 pub fn end(formed: bool, setup: Setup, c: ConsoleId, x: Console) -> Decision
     ensures { result ≡ ends formed setup c.0 x }
 {
-    if !formed {
-        return Decision::Refuse(NOT_WELL_FORMED);
-    }
-    if c.0 >= setup.m {
-        return Decision::Refuse(NO_SUCH_CONSOLE);
-    }
-    let s = x.state;
-    if !s.is_up() {
-        return Decision::Refuse(CONSOLE_IS_DOWN);
-    }
+    Refusal::NotWellFormed.unless(formed)?;
+    Refusal::NoSuchConsole.unless(c.0 < setup.m)?;
+    Refusal::ConsoleIsDown.unless(x.state.is_up())?;
     done(Part::ConsoleTo(rest(State::Down, x)), Sent::Keep)
 }
 
@@ -56,15 +38,9 @@ pub fn end(formed: bool, setup: Setup, c: ConsoleId, x: Console) -> Decision
 pub fn fall(formed: bool, setup: Setup, k: NodeId, y: Node) -> Decision
     ensures { result ≡ falls formed setup k.0 y }
 {
-    if !formed {
-        return Decision::Refuse(NOT_WELL_FORMED);
-    }
-    if k.0 >= setup.n {
-        return Decision::Refuse(NO_SUCH_NODE);
-    }
-    if !y.up {
-        return Decision::Refuse(NODE_IS_DOWN);
-    }
+    Refusal::NotWellFormed.unless(formed)?;
+    Refusal::NoSuchNode.unless(k.0 < setup.n)?;
+    Refusal::NodeIsDown.unless(y.up)?;
     done(Part::NodeTo(set_up(y, false)), Sent::Keep)
 }
 
@@ -73,33 +49,32 @@ pub fn fall(formed: bool, setup: Setup, k: NodeId, y: Node) -> Decision
 pub fn rise(formed: bool, setup: Setup, k: NodeId, y: Node) -> Decision
     ensures { result ≡ rises formed setup k.0 y }
 {
-    if !formed {
-        return Decision::Refuse(NOT_WELL_FORMED);
-    }
-    if k.0 >= setup.n {
-        return Decision::Refuse(NO_SUCH_NODE);
-    }
-    if y.up {
-        return Decision::Refuse(NODE_IS_UP);
-    }
+    Refusal::NotWellFormed.unless(formed)?;
+    Refusal::NoSuchNode.unless(k.0 < setup.n)?;
+    Refusal::NodeIsUp.unless(!y.up)?;
     done(Part::NodeTo(set_up(y, true)), Sent::Keep)
 }
 
 // The same of a step that takes no reply in, with outcome done.
 fn done(part: Part, sent: Sent) -> Decision
-    ensures { result ≡ accept Compared.None Outcome.Done part sent }
+    ensures { result ≡ accept None Outcome.Done part sent }
 {
-    accept(Compared::None, Outcome::Done, part, sent)
+    accept(None, Outcome::Done, part, sent)
 }
 
 // A step that is accepted, and what it changes.
-pub(crate) fn accept(how: Compared, outcome: Outcome, part: Part, sent: Sent) -> Decision
-    ensures { result ≡ accept how outcome part sent }
+pub(crate) fn accept(
+    compared: Option<Ordering>,
+    outcome: Outcome,
+    part: Part,
+    sent: Sent,
+) -> Decision
+    ensures { result ≡ accept compared outcome part sent }
 {
-    Decision::Accept(Change {
-        outcome: outcome,
-        compared: how,
-        part: part,
-        sent: sent,
+    Ok(Change {
+        outcome,
+        compared,
+        part,
+        sent,
     })
 }

@@ -10,10 +10,7 @@ use parts::{Console, ConsoleId, MAX_TS, Tag};
 fn next_ts(ts: u32) -> u32
     ensures { ts < max_ts → result ≡ ts + 1 }
 {
-    if ts >= MAX_TS {
-        return ts;
-    }
-    ts + 1
+    if ts < MAX_TS { ts + 1 } else { ts }
 }
 
 // The tag to tell: a write chooses the next one, a read keeps its best.
@@ -21,17 +18,12 @@ fn next_ts(ts: u32) -> u32
 fn told_tag(c: ConsoleId, x: Console) -> Tag
     ensures { (writes x.state ≡ true → x.best.ts < max_ts) → result ≡ cond (writes x.state) (next_tag c.0 x) x.best }
 {
-    let s = x.state;
-    let best = x.best;
-    if s.is_writing() {
-        return Tag {
-            ts: next_ts(best.ts),
-            console: c.0,
-        };
+    if !x.state.is_writing() {
+        return x.best;
     }
     Tag {
-        ts: best.ts,
-        console: best.console,
+        ts: next_ts(x.best.ts),
+        console: c.0,
     }
 }
 
@@ -39,11 +31,11 @@ fn told_tag(c: ConsoleId, x: Console) -> Tag
 fn told_value(x: Console) -> u32
     ensures { result ≡ cond (writes x.state) x.wanted x.value }
 {
-    let s = x.state;
-    if s.is_writing() {
-        return x.wanted;
+    if x.state.is_writing() {
+        x.wanted
+    } else {
+        x.value
     }
-    x.value
 }
 
 // The console as it turns, where a write's timestamp can grow (question 10).
@@ -51,16 +43,12 @@ fn told_value(x: Console) -> u32
 pub fn tell(c: ConsoleId, x: Console) -> Console
     ensures { (writes x.state ≡ true → x.best.ts < max_ts) → result ≡ tells c.0 x }
 {
-    let s = x.state;
-    let next = s.to_telling();
-    let t = told_tag(c, x);
-    let v = told_value(x);
     Console {
-        state: next,
-        wanted: x.wanted,
+        state: x.state.to_telling(),
         answered: 0,
-        best: t,
-        value: v,
+        best: told_tag(c, x),
+        value: told_value(x),
         alike: false,
+        ..x
     }
 }

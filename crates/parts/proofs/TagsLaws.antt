@@ -7,10 +7,10 @@ use borrow.Author.Tests.{ltb-true, ltb-false, eqb-true, eqb-false, lt-ltb, le-lt
 use lib.Dec.{ltb, eqb}
 use Rattle.std.specs.declared.cmp.Ordering.TheVariants.{Less, Equal, Greater}
 use Rattle.std.specs.Cmp.{nat_cmp_is}
-use Rattle.std.specs.Ordering.{MatchOrdering, nat_cmp}
+use Rattle.std.specs.Ordering.{MatchOrdering, is_eq, is_gt, nat_cmp}
 use Rattle.parts.specs.declared.Tag.{Tag}
 use Rattle.parts.specs.Limits.{max_consoles, max_ts}
-use Rattle.parts.specs.Tags.{zero_tag, greater, key, compared, is_higher, is_same}
+use Rattle.parts.specs.Tags.{zero_tag, greater, key, compared}
 
 -- a tag whose key can be compared
 pub record Small (t : Tag) : Type 0 where
@@ -50,17 +50,17 @@ pub key_values : (key zero_tag ≡ 0) × (key (record { ts = 1; console = 1 }) �
 key_values = (refl, refl, refl)
 
 -- a tag that compares higher is the greater one
-pub higher_greater : (t b : Tag) → is_higher (compared t b) ≡ greater t b
+pub higher_greater : (t b : Tag) → is_gt (compared t b) ≡ greater t b
 unfolding compared
 higher_greater t b = go (greater t b) refl (greater b t) refl
   where
-    go : (x : Bool) → greater t b ≡ x → (y : Bool) → greater b t ≡ y → is_higher (compared t b) ≡ x
+    go : (x : Bool) → greater t b ≡ x → (y : Bool) → greater b t ≡ y → is_gt (compared t b) ≡ x
     go true e y f = rw e
     go false e true f = rw (e, f)
     go false e false f = rw (e, f)
 
 -- of two tags that compare the same neither is greater
-pub same_neither : (t b : Tag) → is_same (compared t b) ≡ true → (greater t b ≡ false) × (greater b t ≡ false)
+pub same_neither : (t b : Tag) → is_eq (compared t b) ≡ true → (greater t b ≡ false) × (greater b t ≡ false)
 unfolding compared
 same_neither t b h = go (greater t b) refl (greater b t) refl
   where

@@ -1,6 +1,6 @@
 -- Tags and their order (document 01, 'The board': tag; source document 000, definition 1), the number that stands for a tag
 -- (document 02, Paper 5), and how a reply's tag compares (Paper 3).
-use Rattle.std.specs.Prelude.{ℕ, ◌+◌, ◌*◌, Bool, true, false, cond, ◌&&◌, ◌||◌, ltb, eqb}
+use Rattle.std.specs.Prelude.{ℕ, ◌+◌, ◌*◌, Bool, cond, ◌&&◌, ◌||◌, ltb, eqb}
 use Rattle.parts.specs.declared.Tag.{Tag}
 use Rattle.std.specs.declared.cmp.Ordering.{Ordering}
 use Rattle.std.specs.declared.cmp.Ordering.TheVariants.{Less, Equal, Greater}
@@ -20,13 +20,3 @@ key t = t.ts * 8 + t.console
 -- 'lower, same or higher (its tag against the old best)'
 unfoldable pub compared : Tag → Tag → Ordering
 compared t best = cond (greater t best) Greater (cond (greater best t) Less Equal)
-
-abbrev pub is_higher : Ordering → Bool
-is_higher Less = false
-is_higher Equal = false
-is_higher Greater = true
-
-abbrev pub is_same : Ordering → Bool
-is_same Less = false
-is_same Equal = true
-is_same Greater = false

@@ -49,7 +49,10 @@ impl State {
     pub fn is_writing(self) -> bool
         ensures { result ≡ writes self }
     {
-        matches!(self, State::Asking(Kind::Write) | State::Telling(Kind::Write))
+        matches!(
+            self,
+            State::Asking(Kind::Write) | State::Telling(Kind::Write)
+        )
     }
 
     // The same operation, telling.

@@ -17,5 +17,7 @@ pub fn cell_index(c: ConsoleId, k: NodeId) -> usize
 pub fn frame_in(cells: [Cell; CELLS], c: ConsoleId, k: NodeId) -> Frame
     ensures { result ≡ frame_in cells c.0 k.0 }
 {
-    cells.get(cell_index(c, k)).map_or(Frame::Nothing, |cell| cell.frame)
+    cells
+        .get(cell_index(c, k))
+        .map_or(Frame::Nothing, |cell| cell.frame)
 }

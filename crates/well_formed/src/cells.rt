@@ -1,8 +1,12 @@
 // The clauses on cells.
-ghost use Rattle.std.specs.Prelude.{◌≡◌};
-ghost use Rattle.well_formed.specs.Clauses.{frame_ok, cell_ok, cells_ok};
+ghost use Rattle.std.specs.Prelude.{◌≡◌, ◌<◌};
+ghost use Rattle.parts.specs.Limits.{max_nodes, max_consoles};
+ghost use Rattle.parts.specs.Parts.{frame_in};
+ghost use Rattle.well_formed.specs.Clauses.{frame_ok, cell_ok, row_ok, cells_ok};
 
+use crate::every::every;
 use crate::tags::is_tag_ok;
+use parts::cells::cell_index;
 use parts::{CELLS, Cell, ConsoleId, Frame, MAX_CONSOLES, MAX_NODES, NodeId, Setup};
 
 #[tactic(auto, unfolding(crate::specs::Clauses::frame_ok))]
@@ -10,11 +14,8 @@ fn is_frame_ok(setup: Setup, f: Frame) -> bool
     ensures { result ≡ frame_ok setup f }
 {
     match f {
-        Frame::Nothing => true,
-        Frame::Ask => true,
-        Frame::Reply(t, v) => is_tag_ok(setup, t, v),
-        Frame::Put(t, v) => is_tag_ok(setup, t, v),
-        Frame::Ack => true,
+        Frame::Reply(t, v) | Frame::Put(t, v) => is_tag_ok(setup, t, v),
+        Frame::Nothing | Frame::Ask | Frame::Ack => true,
     }
 }
 
@@ -22,32 +23,33 @@ fn is_frame_ok(setup: Setup, f: Frame) -> bool
 fn is_cell_ok(setup: Setup, c: ConsoleId, k: NodeId, f: Frame) -> bool
     ensures { result ≡ cell_ok setup c.0 k.0 f }
 {
-    if c.0 >= setup.m {
-        return f.is_nothing();
+    if c.0 < setup.m && k.0 < setup.n {
+        is_frame_ok(setup, f)
+    } else {
+        f.is_nothing()
     }
-    if k.0 >= setup.n {
-        return f.is_nothing();
-    }
-    is_frame_ok(setup, f)
+}
+
+// The cell of console c and node k.
+#[tactic(auto, unfolding(parts::specs::Parts::frame_in, parts::specs::Parts::cell_index))]
+fn is_cell_at_ok(setup: Setup, cells: &[Cell; CELLS], c: ConsoleId, k: NodeId) -> bool
+    requires { (c.0 < max_consoles) × (k.0 < max_nodes) }
+    ensures { result ≡ cell_ok setup c.0 k.0 (frame_in cells.now c.0 k.0) }
+{
+    is_cell_ok(setup, c, k, cells[cell_index(c, k)].frame)
+}
+
+// Console c's cells.
+fn is_row_ok(setup: Setup, cells: &[Cell; CELLS], c: ConsoleId) -> bool
+    requires { c.0 < max_consoles }
+    ensures { result ≡ row_ok setup cells.now c.0 }
+{
+    every(MAX_NODES, |k| is_cell_at_ok(setup, cells, c, NodeId(k)))
 }
 
 // Cell by cell, row by row.
 pub fn are_cells_ok(setup: Setup, cells: [Cell; CELLS]) -> bool
     ensures { result ≡ cells_ok setup cells }
 {
-    let mut c: u32 = 0;
-    let mut k: u32 = 0;
-    while c < MAX_CONSOLES {
-        let x = cells[(c * MAX_NODES + k) as usize];
-        let f = x.frame;
-        if !is_cell_ok(setup, ConsoleId(c), NodeId(k), f) {
-            return false;
-        }
-        k += 1;
-        if k == MAX_NODES {
-            k = 0;
-            c += 1;
-        }
-    }
-    true
+    every(MAX_CONSOLES, |c| is_row_ok(setup, &cells, ConsoleId(c)))
 }

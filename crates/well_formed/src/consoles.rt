@@ -2,6 +2,7 @@
 ghost use Rattle.std.specs.Prelude.{◌≡◌};
 ghost use Rattle.well_formed.specs.Clauses.{rest_ok, wanted_ok, wait_ok, state_ok, mark_ok, console_ok, consoles_ok};
 
+use crate::every::every;
 use crate::tags::{is_tag_ok, is_zero};
 use parts::answered::{is_only_below, set_size};
 use parts::{CONSOLES, Console, ConsoleId, Kind, MAX_CONSOLES, Setup, State};
@@ -10,13 +11,7 @@ use parts::{CONSOLES, Console, ConsoleId, Kind, MAX_CONSOLES, Setup, State};
 fn is_rest_ok(x: Console) -> bool
     ensures { result ≡ rest_ok x }
 {
-    if x.answered != 0 {
-        return false;
-    }
-    if !is_zero(x.best, x.value) {
-        return false;
-    }
-    x.wanted == 0
+    x.answered == 0 && is_zero(x.best, x.value) && x.wanted == 0
 }
 
 // A read's wanted value is 0.
@@ -24,24 +19,14 @@ fn is_rest_ok(x: Console) -> bool
 fn is_wanted_ok(w: Kind, wanted: u32) -> bool
     ensures { result ≡ wanted_ok w wanted }
 {
-    match w {
-        Kind::Read => wanted == 0,
-        Kind::Write => true,
-    }
+    w.is_write() || wanted == 0
 }
 
 #[tactic(auto, unfolding(crate::specs::Clauses::wait_ok))]
 fn is_wait_ok(setup: Setup, q: u32, w: Kind, x: Console) -> bool
     ensures { result ≡ wait_ok setup q w x }
 {
-    let s = x.answered;
-    if !is_only_below(setup.n, s) {
-        return false;
-    }
-    if set_size(s) >= q {
-        return false;
-    }
-    is_wanted_ok(w, x.wanted)
+    is_only_below(setup.n, x.answered) && set_size(x.answered) < q && is_wanted_ok(w, x.wanted)
 }
 
 #[tactic(auto, unfolding(crate::specs::Clauses::state_ok))]
@@ -49,18 +34,12 @@ fn is_state_ok(setup: Setup, x: Console, s: State) -> bool
     ensures { result ≡ state_ok setup x s }
 {
     match s {
-        State::Idle => is_rest_ok(x),
+        State::Idle | State::Down => is_rest_ok(x),
         State::Asking(w) => {
-            if !is_wait_ok(setup, setup.ask_size(), w, x) {
-                return false;
-            }
-            if x.answered != 0 {
-                return true;
-            }
-            is_zero(x.best, x.value)
+            is_wait_ok(setup, setup.ask_size(), w, x)
+                && (x.answered != 0 || is_zero(x.best, x.value))
         }
         State::Telling(w) => is_wait_ok(setup, setup.tell_size(), w, x),
-        State::Down => is_rest_ok(x),
     }
 }
 
@@ -70,18 +49,10 @@ fn is_mark_ok(x: Console, s: State) -> bool
     ensures { result ≡ mark_ok x s }
 {
     match s {
-        State::Idle => !x.alike,
         State::Asking(_) => {
-            if x.answered == 0 {
-                return !x.alike;
-            }
-            if set_size(x.answered) != 1 {
-                return true;
-            }
-            x.alike
+            (x.answered != 0 || !x.alike) && (set_size(x.answered) != 1 || x.alike)
         }
-        State::Telling(_) => !x.alike,
-        State::Down => !x.alike,
+        State::Idle | State::Telling(_) | State::Down => !x.alike,
     }
 }
 
@@ -89,32 +60,20 @@ fn is_mark_ok(x: Console, s: State) -> bool
 fn is_console_ok(setup: Setup, c: ConsoleId, x: Console) -> bool
     ensures { result ≡ console_ok setup c.0 x }
 {
-    let s = x.state;
-    if !is_mark_ok(x, s) {
+    if !is_mark_ok(x, x.state) {
         return false;
     }
     if c.0 < setup.m {
-        if !is_tag_ok(setup, x.best, x.value) {
-            return false;
-        }
-        return is_state_ok(setup, x, s);
+        is_tag_ok(setup, x.best, x.value) && is_state_ok(setup, x, x.state)
+    } else {
+        x.state.is_idle() && is_rest_ok(x)
     }
-    if !s.is_idle() {
-        return false;
-    }
-    is_rest_ok(x)
 }
 
 pub fn are_consoles_ok(setup: Setup, consoles: [Console; CONSOLES]) -> bool
     ensures { result ≡ consoles_ok setup consoles }
 {
-    let mut c: u32 = 0;
-    while c < MAX_CONSOLES {
-        let x = consoles[c as usize];
-        if !is_console_ok(setup, ConsoleId(c), x) {
-            return false;
-        }
-        c += 1;
-    }
-    true
+    every(MAX_CONSOLES, |c| {
+        is_console_ok(setup, ConsoleId(c), consoles[c as usize])
+    })
 }

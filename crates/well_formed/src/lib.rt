@@ -4,6 +4,7 @@
 
 pub mod cells;
 pub mod consoles;
+mod every;
 pub mod nodes;
 pub mod ranges;
 mod tags;

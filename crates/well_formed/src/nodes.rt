@@ -2,6 +2,7 @@
 ghost use Rattle.std.specs.Prelude.{◌≡◌};
 ghost use Rattle.well_formed.specs.Clauses.{node_ok, nodes_ok};
 
+use crate::every::every;
 use crate::tags::{is_tag_ok, is_zero};
 use parts::{MAX_NODES, NODES, Node, NodeId, Setup};
 
@@ -10,24 +11,17 @@ fn is_node_ok(setup: Setup, k: NodeId, x: Node) -> bool
     ensures { result ≡ node_ok setup k.0 x }
 {
     if k.0 < setup.n {
-        return is_tag_ok(setup, x.tag, x.value);
+        is_tag_ok(setup, x.tag, x.value)
+    } else {
+        x.up && is_zero(x.tag, x.value)
     }
-    if !x.up {
-        return false;
-    }
-    is_zero(x.tag, x.value)
 }
 
 pub fn are_nodes_ok(setup: Setup, nodes: [Node; NODES]) -> bool
     ensures { result ≡ nodes_ok setup nodes }
 {
-    let mut k: u32 = 0;
-    while k < MAX_NODES {
-        let x = nodes[k as usize];
-        if !is_node_ok(setup, NodeId(k), x) {
-            return false;
-        }
-        k += 1;
-    }
-    true
+    every(
+        MAX_NODES,
+        |k| is_node_ok(setup, NodeId(k), nodes[k as usize]),
+    )
 }

@@ -9,10 +9,7 @@ use parts::{MAX_CONSOLES, MAX_NODES, Setup};
 pub fn is_node_count(n: u32) -> bool
     ensures { result ≡ nodes_allowed n }
 {
-    if n < 1 {
-        return false;
-    }
-    n <= MAX_NODES
+    (1..=MAX_NODES).contains(&n)
 }
 
 // Question 3.
@@ -20,18 +17,12 @@ pub fn is_node_count(n: u32) -> bool
 pub fn is_console_count(m: u32) -> bool
     ensures { result ≡ consoles_allowed m }
 {
-    if m < 1 {
-        return false;
-    }
-    m <= MAX_CONSOLES
+    (1..=MAX_CONSOLES).contains(&m)
 }
 
 #[tactic(auto, unfolding(crate::specs::Clauses::setup_ok))]
 pub fn is_setup_ok(setup: Setup) -> bool
     ensures { result ≡ setup_ok setup }
 {
-    if !is_node_count(setup.n) {
-        return false;
-    }
-    is_console_count(setup.m)
+    is_node_count(setup.n) && is_console_count(setup.m)
 }

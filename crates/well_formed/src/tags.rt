@@ -9,27 +9,12 @@ use parts::{MAX_TS, Setup, Tag};
 pub(crate) fn is_zero(t: Tag, v: u32) -> bool
     ensures { result ≡ is_zero t v }
 {
-    if t.ts != 0 {
-        return false;
-    }
-    if t.console != 0 {
-        return false;
-    }
-    v == 0
+    t.ts == 0 && t.console == 0 && v == 0
 }
 
 #[tactic(auto, unfolding(crate::specs::Clauses::tag_ok))]
 pub(crate) fn is_tag_ok(setup: Setup, t: Tag, v: u32) -> bool
     ensures { result ≡ tag_ok setup t v }
 {
-    if t.ts > MAX_TS {
-        return false;
-    }
-    if t.console >= setup.m {
-        return false;
-    }
-    if t.ts != 0 {
-        return true;
-    }
-    is_zero(t, v)
+    t.ts <= MAX_TS && t.console < setup.m && (t.ts != 0 || is_zero(t, v))
 }

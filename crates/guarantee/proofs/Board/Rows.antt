@@ -12,7 +12,8 @@ use Rattle.parts.specs.AnsweredSet.{insert, member, size}
 use Rattle.parts.specs.Finite.{count, one}
 use Rattle.parts.specs.Parts.{is_asking, is_nothing, is_telling, is_waiting, to_telling, writes}
 use Rattle.parts.specs.Sizes.{ask_size, tell_size}
-use Rattle.parts.specs.Tags.{compared, greater, is_same}
+use Rattle.std.specs.Ordering.{is_eq}
+use Rattle.parts.specs.Tags.{compared, greater}
 use Rattle.parts.specs.declared.Console.{Console}
 use Rattle.parts.specs.declared.Frame.{Frame}
 use Rattle.parts.specs.declared.Frame.TheVariants.{Ack, Ask, Nothing, Put, Reply}
@@ -239,7 +240,7 @@ all_alike x k u v h i zero on = go (eqb x.answered 0) refl on
     later : key u ≡ key x.best → (key (cond (greater u x.best) u x.best) ≡ key u) × (key (cond (greater u x.best) u x.best) ≡ key x.best)
     later e = split (λ (t : Tag). (key t ≡ key u) × (key t ≡ key x.best)) (greater u x.best) (λ _. (refl, e)) (λ _. (sym e, refl))
 
-    go : (z : Bool) → eqb x.answered 0 ≡ z → (z || x.alike && is_same (compared u x.best)) ≡ true → Alike x k u v
+    go : (z : Bool) → eqb x.answered 0 ≡ z → (z || x.alike && is_eq (compared u x.best)) ≡ true → Alike x k u v
     go true e o = record { reply_has = first e; older_have = λ n. absurd (contra e n) }
     go false e o =
         let same = later (same_key u x.best i h (and_right x.alike _ o)) in

@@ -9,7 +9,8 @@ use lib.Dec.{ltb}
 pub use Rattle.parts.proofs.TagsLaws.{Small, greater_key}
 use Rattle.parts.proofs.TagsLaws.{same_neither}
 pub use Rattle.parts.specs.Tags.{key}
-use Rattle.parts.specs.Tags.{compared, greater, is_same}
+use Rattle.std.specs.Ordering.{is_eq}
+use Rattle.parts.specs.Tags.{compared, greater}
 use Rattle.parts.specs.declared.Tag.{Tag}
 use Rattle.guarantee.specs.Claim.{Higher}
 
@@ -20,7 +21,7 @@ pub greater_false : (a b : Tag) → Small a → Small b → greater a b ≡ fals
 greater_false a b h i e = ltb-false (key b) (key a) (sym (greater_key a b h i) ∙ e)
 
 -- tags that compare the same have one key
-pub same_key : (a b : Tag) → Small a → Small b → is_same (compared a b) ≡ true → key a ≡ key b
+pub same_key : (a b : Tag) → Small a → Small b → is_eq (compared a b) ≡ true → key a ≡ key b
 same_key a b h i e = omega (arith, greater_false a b h i (same_neither a b e).0, greater_false b a i h (same_neither a b e).1)
 
 -- the claim's order is that of the keys

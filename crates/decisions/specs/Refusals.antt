@@ -1,0 +1,25 @@
+-- The numbers of the refusals (document 01, 'Questions put before each step'; document 02): this is their table.
+use Rattle.std.specs.Prelude.{ℕ, Option, None, Some}
+use Rattle.decisions.specs.declared.refusals.Refusal.{Refusal}
+use Rattle.decisions.specs.declared.refusals.Refusal.TheVariants.{NotWellFormed, BadNodeCount, BadConsoleCount, NoSuchConsole, NoSuchNode, ConsoleIsDown, ConsoleBusy, NoFrame, NodeIsDown, TsUsedUp, NotThreeFields, NoSuchVerb, LineTooLong, NodeIsUp}
+
+abbrev pub number_of : Refusal → ℕ
+number_of NotWellFormed = 1
+number_of BadNodeCount = 2
+number_of BadConsoleCount = 3
+number_of NoSuchConsole = 4
+number_of NoSuchNode = 5
+number_of ConsoleIsDown = 6
+number_of ConsoleBusy = 7
+number_of NoFrame = 8
+number_of NodeIsDown = 9
+number_of TsUsedUp = 10
+number_of NotThreeFields = 11
+number_of NoSuchVerb = 12
+number_of LineTooLong = 13
+number_of NodeIsUp = 14
+
+-- 'refusal or 0'
+abbrev pub refusal_number : Option Refusal → ℕ
+refusal_number None = 0
+refusal_number (Some r) = number_of r
