@@ -1,8 +1,8 @@
 -- Runs of Paper 3 (document 02): what every step must say of the reply, and how the mark of its console must stand after it.
 -- proofs/PRunsHold.antt proves that the definitions give all of it.
-use Rattle.std.specs.Prelude.{ℕ, Bool, true, false, List, [], ◌∷◌, ◌++◌}
-use Rattle.parts.specs.declared.Compared.{Compared}
-use Rattle.parts.specs.declared.Compared.TheVariants.{None, Lower, Same, Higher}
+use Rattle.std.specs.Prelude.{ℕ, Bool, true, false, List, [], ◌∷◌, ◌++◌, Option, None, Some}
+use Rattle.std.specs.declared.cmp.Ordering.{Ordering}
+use Rattle.std.specs.declared.cmp.Ordering.TheVariants.{Less, Equal, Greater}
 use Rattle.parts.specs.declared.Console.{Console}
 use Rattle.parts.specs.declared.Frame.TheVariants.{Reply}
 use Rattle.parts.specs.declared.Release.TheVariants.{One}
@@ -11,6 +11,7 @@ use Rattle.parts.specs.declared.State.{State}
 use Rattle.parts.specs.declared.State.TheVariants.{Idle, Asking, Telling, Down}
 use Rattle.parts.specs.Tags.{zero_tag}
 use Rattle.parts.specs.Outcomes.{outcome_number}
+use Rattle.decisions.specs.Refusals.{refusal_number}
 use Rattle.board.specs.declared.Answer.{Answer}
 use Rattle.board.specs.declared.Board.{Board}
 use Rattle.board.specs.Boards.{console_at, with_console, with_frame, fresh_board}
@@ -23,7 +24,7 @@ pub record Told : Type 0 where
   pub did : Step
   pub outcome : ℕ
   pub refusal : ℕ
-  pub compared : Compared
+  pub compared : Option Ordering
   pub alike : Bool
 
 pub record CompareRun : Type 0 where
@@ -46,7 +47,7 @@ told s a =
     record {
       did = s;
       outcome = outcome_number a.outcome;
-      refusal = a.refusal;
+      refusal = refusal_number a.refusal;
       compared = a.compared;
       alike = (console_at a.board (console_of s)).alike;
     }
@@ -64,7 +65,7 @@ must_say r = r.lines
 
 -- ---- the words of the runs; on says whether the mark is
 
-abbrev does : Step → ℕ → ℕ → Compared → Bool → Told
+abbrev does : Step → ℕ → ℕ → Option Ordering → Bool → Told
 does s o r how on = record { did = s; outcome = o; refusal = r; compared = how; alike = on }
 
 abbrev pub done : Step → Told
@@ -73,13 +74,13 @@ done s = does s 1 0 None false
 abbrev pub handed : ℕ → ℕ → Bool → Told
 handed c k on = does (Deliver c k) 2 0 None on
 
-abbrev pub heard : ℕ → ℕ → Compared → Bool → Told
+abbrev pub heard : ℕ → ℕ → Option Ordering → Bool → Told
 heard c k how on = does (Deliver c k) 3 0 how on
 
-abbrev pub turned : ℕ → ℕ → Compared → Told
+abbrev pub turned : ℕ → ℕ → Option Ordering → Told
 turned c k how = does (Deliver c k) 4 0 how false
 
-abbrev pub finished : ℕ → ℕ → Compared → Told
+abbrev pub finished : ℕ → ℕ → Option Ordering → Told
 finished c k how = does (Deliver c k) 5 0 how false
 
 abbrev discarded : ℕ → ℕ → Bool → Told
@@ -98,11 +99,11 @@ agreed : List Told
 agreed =
     done (BeginRead 0)
     ∷ handed 0 0 false
-    ∷ heard 0 0 Same true
+    ∷ heard 0 0 (Some Equal) true
     ∷ handed 0 1 true
-    ∷ heard 0 1 Same true
+    ∷ heard 0 1 (Some Equal) true
     ∷ handed 0 2 true
-    ∷ turned 0 2 Same
+    ∷ turned 0 2 (Some Equal)
     ∷ handed 0 0 false
     ∷ heard 0 0 None false
     ∷ handed 0 1 false
@@ -116,11 +117,11 @@ unfoldable pub written : List Told
 written =
     done (BeginWrite 1 7)
     ∷ handed 1 0 false
-    ∷ heard 1 0 Same true
+    ∷ heard 1 0 (Some Equal) true
     ∷ handed 1 1 true
-    ∷ heard 1 1 Same true
+    ∷ heard 1 1 (Some Equal) true
     ∷ handed 1 2 true
-    ∷ turned 1 2 Same
+    ∷ turned 1 2 (Some Equal)
     ∷ handed 1 0 false
     ∷ heard 1 0 None false
     ∷ handed 1 1 false
@@ -136,11 +137,11 @@ lower =
     written
     ++ (done (BeginRead 0)
     ∷ handed 0 0 false
-    ∷ heard 0 0 Higher true
+    ∷ heard 0 0 (Some Greater) true
     ∷ handed 0 3 true
-    ∷ heard 0 3 Lower false
+    ∷ heard 0 3 (Some Less) false
     ∷ handed 0 1 false
-    ∷ turned 0 1 Same
+    ∷ turned 0 1 (Some Equal)
     ∷ [])
 
 -- a higher tag clears it
@@ -150,11 +151,11 @@ higher =
     written
     ++ (done (BeginRead 0)
     ∷ handed 0 3 false
-    ∷ heard 0 3 Same true
+    ∷ heard 0 3 (Some Equal) true
     ∷ handed 0 2 true
-    ∷ heard 0 2 Higher false
+    ∷ heard 0 2 (Some Greater) false
     ∷ handed 0 4 false
-    ∷ turned 0 4 Lower
+    ∷ turned 0 4 (Some Less)
     ∷ [])
 
 -- a console goes down while its mark is on: it is off then, and the reply that comes after is thrown away
@@ -163,7 +164,7 @@ lost =
     done (BeginRead 0)
     ∷ handed 0 0 false
     ∷ handed 0 1 false
-    ∷ heard 0 0 Same true
+    ∷ heard 0 0 (Some Equal) true
     ∷ done (ConsoleDown 0)
     ∷ discarded 0 1 false
     ∷ []
@@ -173,7 +174,7 @@ too_high : List Told
 too_high = refused 0 0 10 false ∷ []
 
 highest : List Told
-highest = turned 0 0 Higher ∷ []
+highest = turned 0 0 (Some Greater) ∷ []
 
 -- a console in state s with the answered set a
 abbrev console : State → ℕ → Bool → Console

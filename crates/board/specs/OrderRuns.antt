@@ -1,7 +1,7 @@
 -- Runs that hold the definitions to single sentences of document 01: the order of tags, the order of the questions, and
 -- what each step leaves on the whole board; and decisions, for what no board can tell. A definition that says otherwise is refused here, though its code says the
 -- same. proofs/PRunsHold.antt proves that the definitions give all of it.
-use Rattle.std.specs.Prelude.{ℕ, Bool, true, false, List, [], ◌∷◌, ◌++◌, replicate, take}
+use Rattle.std.specs.Prelude.{ℕ, Bool, true, false, List, [], ◌∷◌, ◌++◌, replicate, take, None, Err}
 use Rattle.parts.specs.declared.Tag.{Tag}
 use Rattle.parts.specs.declared.Frame.{Frame}
 use Rattle.parts.specs.declared.Frame.TheVariants.{Nothing, Ask, Reply, Put, Ack}
@@ -14,15 +14,13 @@ use Rattle.parts.specs.declared.Console.{Console}
 use Rattle.parts.specs.declared.Release.TheVariants.{One}
 use Rattle.parts.specs.declared.Setup.{Setup}
 use Rattle.parts.specs.declared.Outcome.TheVariants.{Done}
-use Rattle.parts.specs.declared.Compared.TheVariants.{None}
 use Rattle.parts.specs.Tags.{zero_tag}
 use Rattle.parts.specs.Parts.{fresh_node, idle_console, cell_of}
 use Rattle.decisions.specs.declared.Part.TheVariants.{ConsoleTo}
 use Rattle.decisions.specs.declared.Sent.TheVariants.{Row}
-use Rattle.decisions.specs.declared.Decision.{Decision}
-use Rattle.decisions.specs.declared.Decision.TheVariants.{Refuse}
+use Rattle.decisions.specs.declared.refusals.Refusal.TheVariants.{NoSuchConsole, NoSuchNode}
 use Rattle.decisions.specs.Steps as decisions
-use Rattle.decisions.specs.Steps.{accept}
+use Rattle.decisions.specs.Steps.{Decision, accept}
 use Rattle.board.specs.declared.Board.{Board}
 use Rattle.board.specs.Steps.{setup_of}
 use Rattle.board.specs.PRuns.{NodeOf, CellOf, Whole, Holds, Frames, Is, Line, ◌gives◌, PRun, tag, refused, done, handed, heard, turned, finished, discarded, fresh, read, write, deliver, node_down, on_three, p2_steps, p3_steps, asks_two, run, blank, p9_board}
@@ -389,10 +387,10 @@ three_two = setup_of 3 2 One
 -- beyond n that is down. A begin has 'nothing answered and best (0, 0), 0', whatever the console had
 unfoldable pub order_decisions : List Decided
 order_decisions =
-    decisions.begins true three_two 2 Read 0 down_console must_be Refuse 4
-    ∷ decisions.begins true three_two 2 Write 9 (console (Asking Read) 0 0 zero_tag 0 false) must_be Refuse 4
-    ∷ decisions.ends true three_two 2 down_console must_be Refuse 4
-    ∷ decisions.falls true three_two 3 (down_node zero_tag 0) must_be Refuse 5
+    decisions.begins true three_two 2 Read 0 down_console must_be Err NoSuchConsole
+    ∷ decisions.begins true three_two 2 Write 9 (console (Asking Read) 0 0 zero_tag 0 false) must_be Err NoSuchConsole
+    ∷ decisions.ends true three_two 2 down_console must_be Err NoSuchConsole
+    ∷ decisions.falls true three_two 3 (down_node zero_tag 0) must_be Err NoSuchNode
     ∷ decisions.begins true three_two 1 Write 9 (console Idle 7 1 (tag 1 1) 5 true) must_be
     accept None Done (ConsoleTo (console (Asking Write) 9 0 zero_tag 0 false)) (Row Ask)
     ∷ []

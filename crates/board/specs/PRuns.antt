@@ -14,6 +14,7 @@ use Rattle.board.specs.declared.Board.{Board}
 use Rattle.board.specs.declared.Answer.{Answer}
 use Rattle.board.specs.Boards.{node_at, frame_at, fresh_board}
 use Rattle.parts.specs.Outcomes.{outcome_number, outcome_tag, outcome_value}
+use Rattle.decisions.specs.Refusals.{refusal_number}
 use Rattle.board.specs.Steps as steps
 use Rattle.board.specs.Steps.{setup_of, smallest}
 use Rattle.board.specs.Runs.{Step, BeginRead, BeginWrite, Deliver, NodeDown, step}
@@ -56,7 +57,7 @@ pub record PRun : Type 0 where
 
 -- what an answer shows, in document 01's numbers
 abbrev pub said : Answer → Seen
-said a = Said (outcome_number a.outcome) a.refusal (outcome_tag a.outcome) (outcome_value a.outcome)
+said a = Said (outcome_number a.outcome) (refusal_number a.refusal) (outcome_tag a.outcome) (outcome_value a.outcome)
 
 unfoldable pub seen : Board → Look → Seen
 seen b (Make σ) = said (steps.fresh σ)

@@ -1,7 +1,7 @@
 -- Runs of Paper 4 (document 02), under release 2 and one beside it under release 1: what every step must answer, and what must be
 -- left on the board. proofs/PRunsHold.antt proves that the definitions give all of it.
-use Rattle.std.specs.Prelude.{true, false, List, [], ◌∷◌, ◌++◌}
-use Rattle.parts.specs.declared.Compared.TheVariants.{None, Same, Higher}
+use Rattle.std.specs.Prelude.{true, false, List, [], ◌∷◌, ◌++◌, None, Some}
+use Rattle.std.specs.declared.cmp.Ordering.TheVariants.{Equal, Greater}
 use Rattle.parts.specs.declared.Frame.TheVariants.{Nothing, Ask, Reply, Put}
 use Rattle.parts.specs.declared.Release.TheVariants.{One, Two}
 use Rattle.board.specs.Boards.{with_frame, fresh_board}
@@ -96,11 +96,11 @@ three_alike : List Told
 three_alike =
     compare.done (BeginRead 0)
     ∷ compare.handed 0 0 false
-    ∷ compare.heard 0 0 Same true
+    ∷ compare.heard 0 0 (Some Equal) true
     ∷ compare.handed 0 1 true
-    ∷ compare.heard 0 1 Same true
+    ∷ compare.heard 0 1 (Some Equal) true
     ∷ compare.handed 0 2 true
-    ∷ compare.finished 0 2 Same
+    ∷ compare.finished 0 2 (Some Equal)
     ∷ []
 
 -- on one node the only reply of a read after a write is higher than (0, 0)
@@ -108,12 +108,12 @@ after_write : List Told
 after_write =
     compare.done (BeginWrite 0 7)
     ∷ compare.handed 0 0 false
-    ∷ compare.turned 0 0 Same
+    ∷ compare.turned 0 0 (Some Equal)
     ∷ compare.handed 0 0 false
     ∷ compare.finished 0 0 None
     ∷ compare.done (BeginRead 0)
     ∷ compare.handed 0 0 false
-    ∷ compare.finished 0 0 Higher
+    ∷ compare.finished 0 0 (Some Greater)
     ∷ []
 
 -- Paper 3's runs whose replies differ are the same under release 2

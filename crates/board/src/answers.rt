@@ -1,20 +1,27 @@
-// The ways to answer a step.
+// The ways to answer a step, and an answer's refusal as a number.
 ghost use Rattle.std.specs.Prelude.{◌≡◌};
+ghost use Rattle.decisions.specs.Refusals.{refusal_number};
 ghost use Rattle.board.specs.Answers.{answer_with, answer, refuse};
 
 use crate::{Answer, Board};
-use parts::{Compared, Outcome};
+use decisions::refusals::Refusal;
+use parts::Outcome;
+use std::cmp::Ordering;
 
 impl Answer {
     // A step that was done, with how the reply that it took in compared (none: it took none in) and the next board.
-    pub(crate) fn accepted_with(compared: Compared, outcome: Outcome, board: Board) -> Answer
+    pub(crate) fn accepted_with(
+        compared: Option<Ordering>,
+        outcome: Outcome,
+        board: Board,
+    ) -> Answer
         ensures { result ≡ answer_with compared outcome board }
     {
         Answer {
-            outcome: outcome,
-            refusal: 0,
-            compared: compared,
-            board: board,
+            outcome,
+            refusal: None,
+            compared,
+            board,
         }
     }
 
@@ -22,18 +29,25 @@ impl Answer {
     pub(crate) fn accepted(outcome: Outcome, board: Board) -> Answer
         ensures { result ≡ answer outcome board }
     {
-        Answer::accepted_with(Compared::None, outcome, board)
+        Answer::accepted_with(None, outcome, board)
     }
 
-    // A step that is refused with this number, with the board to hand back.
-    pub fn refused(refusal: u32, board: Board) -> Answer
+    // A step that is refused, with the board to hand back.
+    pub fn refused(refusal: Refusal, board: Board) -> Answer
         ensures { result ≡ refuse board refusal }
     {
         Answer {
             outcome: Outcome::Refused,
-            refusal: refusal,
-            compared: Compared::None,
-            board: board,
+            refusal: Some(refusal),
+            compared: None,
+            board,
         }
+    }
+
+    // The number of the refusal, or 0.
+    pub fn refusal_number(self) -> u32
+        ensures { result ≡ refusal_number self.refusal }
+    {
+        self.refusal.map_or(0, Refusal::number)
     }
 }

@@ -1,58 +1,67 @@
 // What is decided of console c and node k, done on the board. A place beyond the lists stores nothing.
-ghost use Rattle.std.specs.Prelude.{◌≡◌};
+ghost use Rattle.std.specs.Prelude.{◌≡◌, set};
 ghost use Rattle.board.specs.Applied.{with_sent, with_part, applied};
+ghost use Rattle.board.specs.Boards.{with_frame, with_row};
 
 use crate::{Answer, Board};
 use decisions::{Decision, Part, Sent};
 use parts::cells::cell_index;
-use parts::{CELLS, CONSOLES, Cell, ConsoleId, NODES, NodeId};
+use parts::{Cell, ConsoleId, Frame, NodeId};
+
+// Puts x at the place i, where the list reaches so far.
+fn put<T: Copy>(list: &mut [T], i: usize, x: T)
+    ensures { list.new ≡ set list.old i x }
+{
+    if i < list.len() {
+        list[i] = x;
+    }
+}
 
 impl Board {
     // What was decided of console c and node k is done on the board.
     #[tactic(auto, unfolding(crate::specs::Applied::applied))]
-    pub(crate) fn apply(self, c: ConsoleId, k: NodeId, d: Decision) -> Answer
-        ensures { result ≡ applied self c.0 k.0 d }
+    pub(crate) fn apply(self, c: ConsoleId, k: NodeId, decision: Decision) -> Answer
+        ensures { result ≡ applied self c.0 k.0 decision }
     {
-        match d {
-            Decision::Refuse(r) => Answer::refused(r, self),
-            Decision::Accept(a) => {
-                let sent = a.sent;
-                let part = a.part;
-                let how = a.compared;
-                let outcome = a.outcome;
-                let next = self.with_sent(c, k, sent).with_part(c, k, part);
-                Answer::accepted_with(how, outcome, next)
+        match decision {
+            Err(refusal) => Answer::refused(refusal, self),
+            Ok(change) => {
+                let next = self
+                    .with_sent(c, k, change.sent)
+                    .with_part(c, k, change.part);
+                Answer::accepted_with(change.compared, change.outcome, next)
             }
         }
     }
 
     // The board with the frame in the cell of console c and node k, or in all n cells of console c, or in none.
+    #[tactic(auto, unfolding(crate::specs::Applied::with_sent))]
     fn with_sent(mut self, c: ConsoleId, k: NodeId, sent: Sent) -> Board
         ensures { result ≡ with_sent self c.0 k.0 sent }
     {
         match sent {
             Sent::Keep => {}
-            Sent::One(f) => {
-                let at = cell_index(c, k);
-                if at < CELLS {
-                    let x = Cell { frame: f };
-                    self.cells[at] = x;
-                }
-            }
-            Sent::Row(f) => {
-                let x = Cell { frame: f };
-                let n = self.setup.n;
-                let mut i: u32 = 0;
-                while i < n {
-                    let at = cell_index(c, NodeId(i));
-                    if at < CELLS {
-                        self.cells[at] = x;
-                    }
-                    i += 1;
-                }
-            }
+            Sent::One(frame) => self.store(c, k, frame),
+            Sent::Row(frame) => self.store_row(c, frame),
         }
         self
+    }
+
+    // Puts the frame in the cell of console c and node k.
+    #[tactic(auto, unfolding(crate::specs::Boards::with_frame, parts::specs::Parts::set_frame))]
+    fn store(&mut self, c: ConsoleId, k: NodeId, frame: Frame)
+        ensures { self.new ≡ with_frame self.old c.0 k.0 frame }
+    {
+        put(&mut self.cells, cell_index(c, k), Cell { frame });
+    }
+
+    // Puts the frame in all n cells of console c.
+    fn store_row(&mut self, c: ConsoleId, frame: Frame)
+        ensures { self.new ≡ with_row self.old c.0 frame }
+    {
+        for k in 0..self.setup.n {
+            self.store(c, NodeId(k), frame);
+        }
     }
 
     // The board with console c or node k changed, or neither.
@@ -62,18 +71,8 @@ impl Board {
     {
         match part {
             Part::Neither => {}
-            Part::ConsoleTo(x) => {
-                let i = c.0 as usize;
-                if i < CONSOLES {
-                    self.consoles[i] = x;
-                }
-            }
-            Part::NodeTo(y) => {
-                let i = k.0 as usize;
-                if i < NODES {
-                    self.nodes[i] = y;
-                }
-            }
+            Part::ConsoleTo(x) => put(&mut self.consoles, c.0 as usize, x),
+            Part::NodeTo(y) => put(&mut self.nodes, k.0 as usize, y),
         }
         self
     }

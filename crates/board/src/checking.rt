@@ -16,20 +16,10 @@ impl Board {
     pub fn is_well_formed(self) -> bool
         ensures { result ≡ well_formed self }
     {
-        let setup = self.setup;
-        if !is_setup_ok(setup) {
-            return false;
-        }
-        let nodes = self.nodes;
-        if !are_nodes_ok(setup, nodes) {
-            return false;
-        }
-        let consoles = self.consoles;
-        if !are_consoles_ok(setup, consoles) {
-            return false;
-        }
-        let cells = self.cells;
-        are_cells_ok(setup, cells)
+        is_setup_ok(self.setup)
+            && are_nodes_ok(self.setup, self.nodes)
+            && are_consoles_ok(self.setup, self.consoles)
+            && are_cells_ok(self.setup, self.cells)
     }
 
     // The board of no nodes and no consoles, which is not well formed: what stands for no board is read as this one.

@@ -22,7 +22,7 @@ impl Board {
         let x = self.console_at(c);
         let y = self.node_at(k);
         let f = self.frame_at(c, k);
-        let d = delivered(formed, self.setup, c, k, x, y, f);
-        self.apply(c, k, d)
+        let decision = delivered(formed, self.setup, c, k, x, y, f);
+        self.apply(c, k, decision)
     }
 }

@@ -3,9 +3,10 @@
 
 pub use decisions::refusals;
 pub use parts::{
-    Cell, Compared, Console, ConsoleId, Frame, Kind, Node, NodeId, Outcome, Release, Setup, State,
-    Tag,
+    Cell, Console, ConsoleId, Frame, Kind, Node, NodeId, Outcome, Release, Setup, State, Tag,
 };
+use refusals::Refusal;
+use std::cmp::Ordering;
 
 // Document 01's board. Any value of this type may be handed in: one that is not well formed is refused by question 1.
 // The cell of console c and node k is cells[c * 5 + k].
@@ -17,14 +18,14 @@ pub struct Board {
     pub cells: [Cell; parts::CELLS],
 }
 
-// What a step answers: the outcome, the number of the question that refused it (0: none did), the next board, and how the tag
-// of a reply that it took in compared with the old best.
+// What a step answers: the outcome, its refusal (None: it is accepted), the next board, and how the tag of a reply that it
+// took in compared with the old best (None: it took none in).
 #[derive(Clone, Copy)]
 pub struct Answer {
     pub outcome: Outcome,
-    pub refusal: u32,
+    pub refusal: Option<Refusal>,
     pub board: Board,
-    pub compared: Compared,
+    pub compared: Option<Ordering>,
 }
 
 mod answers;

@@ -14,16 +14,14 @@ impl Board {
     pub(crate) fn node_at(self, k: NodeId) -> Node
         ensures { result ≡ node_at self k.0 }
     {
-        let nodes = self.nodes;
-        node_in(nodes, k)
+        node_in(self.nodes, k)
     }
 
     #[tactic(auto, unfolding(crate::specs::Boards::console_at))]
     pub(crate) fn console_at(self, c: ConsoleId) -> Console
         ensures { result ≡ console_at self c.0 }
     {
-        let consoles = self.consoles;
-        console_in(consoles, c)
+        console_in(self.consoles, c)
     }
 
     // The frame in the cell of console c and node k.
@@ -31,7 +29,6 @@ impl Board {
     pub(crate) fn frame_at(self, c: ConsoleId, k: NodeId) -> Frame
         ensures { result ≡ frame_at self c.0 k.0 }
     {
-        let cells = self.cells;
-        frame_in(cells, c, k)
+        frame_in(self.cells, c, k)
     }
 }

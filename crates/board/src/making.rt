@@ -4,7 +4,7 @@ ghost use Rattle.parts.specs.declared.Release.TheVariants.{One};
 ghost use Rattle.board.specs.Boards.{fresh_board};
 ghost use Rattle.board.specs.Steps.{setup_of, smallest, fresh};
 
-use crate::refusals::{BAD_CONSOLE_COUNT, BAD_NODE_COUNT};
+use crate::refusals::Refusal;
 use crate::{Answer, Board};
 use parts::{CELLS, CONSOLES, Cell, Console, Frame, NODES, Node, Outcome, Release, Setup};
 use well_formed::ranges::{is_console_count, is_node_count};
@@ -30,19 +30,12 @@ impl Board {
         ensures { result ≡ fresh (setup_of n m release) }
     {
         if !is_node_count(n) {
-            return Answer::refused(BAD_NODE_COUNT, Board::smallest());
+            return Answer::refused(Refusal::BadNodeCount, Board::smallest());
         }
         if !is_console_count(m) {
-            return Answer::refused(BAD_CONSOLE_COUNT, Board::smallest());
+            return Answer::refused(Refusal::BadConsoleCount, Board::smallest());
         }
-        Answer::accepted(
-            Outcome::Done,
-            Board::made(Setup {
-                n: n,
-                m: m,
-                release: release,
-            }),
-        )
+        Answer::accepted(Outcome::Done, Board::made(Setup { release, n, m }))
     }
 
     // The board that a refused making hands back.
@@ -61,19 +54,14 @@ impl Board {
     pub(crate) fn made(setup: Setup) -> Board
         ensures { result ≡ fresh_board setup }
     {
-        let node = Node::FRESH;
-        let console = Console::IDLE;
         let cell = Cell {
             frame: Frame::Nothing,
         };
-        let nodes = [node; NODES];
-        let consoles = [console; CONSOLES];
-        let cells = [cell; CELLS];
         Board {
-            setup: setup,
-            nodes: nodes,
-            consoles: consoles,
-            cells: cells,
+            setup,
+            nodes: [Node::FRESH; NODES],
+            consoles: [Console::IDLE; CONSOLES],
+            cells: [cell; CELLS],
         }
     }
 }

@@ -41,9 +41,8 @@ impl Board {
     fn begin_known(self, formed: bool, c: ConsoleId, w: Kind, v: u32) -> Answer
         ensures { formed ≡ well_formed self → result ≡ begin self c.0 w v }
     {
-        let x = self.console_at(c);
-        let d = begin(formed, self.setup, c, w, v, x);
-        self.apply(c, NodeId(0), d)
+        let decision = begin(formed, self.setup, c, w, v, self.console_at(c));
+        self.apply(c, NodeId(0), decision)
     }
 
     // Console c goes down for good: its operation is gone, its frames stay in their cells.
@@ -57,9 +56,8 @@ impl Board {
     pub fn console_down_known(self, formed: bool, c: ConsoleId) -> Answer
         ensures { formed ≡ well_formed self → result ≡ console_down self c.0 }
     {
-        let x = self.console_at(c);
-        let d = end(formed, self.setup, c, x);
-        self.apply(c, NodeId(0), d)
+        let decision = end(formed, self.setup, c, self.console_at(c));
+        self.apply(c, NodeId(0), decision)
     }
 
     // Node k goes down: it keeps its tag and value, and nothing is delivered to it.
@@ -73,9 +71,8 @@ impl Board {
     pub fn node_down_known(self, formed: bool, k: NodeId) -> Answer
         ensures { formed ≡ well_formed self → result ≡ node_down self k.0 }
     {
-        let y = self.node_at(k);
-        let d = fall(formed, self.setup, k, y);
-        self.apply(ConsoleId(0), k, d)
+        let decision = fall(formed, self.setup, k, self.node_at(k));
+        self.apply(ConsoleId(0), k, decision)
     }
 
     // Node k comes back with the tag and value that it held; frames waiting for it can be delivered again.
@@ -89,8 +86,7 @@ impl Board {
     pub fn node_up_known(self, formed: bool, k: NodeId) -> Answer
         ensures { formed ≡ well_formed self → result ≡ node_up self k.0 }
     {
-        let y = self.node_at(k);
-        let d = rise(formed, self.setup, k, y);
-        self.apply(ConsoleId(0), k, d)
+        let decision = rise(formed, self.setup, k, self.node_at(k));
+        self.apply(ConsoleId(0), k, decision)
     }
 }

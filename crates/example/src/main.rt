@@ -25,15 +25,14 @@ fn twice(rt: &impl Print, b: Board, k: NodeId) -> io::Result<Board> {
 
 // Writes an answer down and hands on its board.
 fn next(rt: &impl Print, a: Answer) -> io::Result<Board> {
-    let o = a.outcome;
-    let t = o.tag();
+    let tag = a.outcome.tag();
     println!(rt;
         "{},{},{},{},{}",
-        o.number(),
-        a.refusal,
-        t.ts,
-        t.console,
-        o.value()
+        a.outcome.number(),
+        a.refusal_number(),
+        tag.ts,
+        tag.console,
+        a.outcome.value()
     )?;
     Ok(a.board)
 }

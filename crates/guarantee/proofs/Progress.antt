@@ -8,6 +8,7 @@ use mathlib.Core.Path.{refl, sym, ◌≡◌, ◌∙◌}
 use native.Mathlib.Omega.{arith}
 use borrow.Author.Tests.{lt-ltb}
 use lib.Dec.{ltb}
+use Rattle.std.specs.Prelude.{Ok, Err}
 use Rattle.parts.proofs.FiniteLaws.{and_left}
 use Rattle.parts.specs.Outcomes.{accepted}
 use Rattle.parts.specs.AnsweredSet.{insert, member, size}
@@ -21,11 +22,10 @@ use Rattle.parts.specs.declared.Frame.TheVariants.{Ack, Ask, Nothing, Put, Reply
 use Rattle.parts.specs.declared.Node.{Node}
 use Rattle.parts.specs.declared.Setup.{Setup}
 use Rattle.parts.specs.declared.Tag.{Tag}
+use Rattle.decisions.specs.Steps.{Decision}
 use Rattle.decisions.specs.Changes.{acked, awaits, hears, takes_in}
 use Rattle.decisions.specs.Deliver.{acknowledged, delivered, discards, finished, finishes_early, heard, is_withdrawn, on_ack, on_ask, on_frame, on_put, on_reply, replied, turned}
 use Rattle.decisions.specs.Questions.{has_console, has_next_ts, has_node, holds_frame, is_well_formed, node_is_up}
-use Rattle.decisions.specs.declared.Decision.{Decision}
-use Rattle.decisions.specs.declared.Decision.TheVariants.{Accept, Refuse}
 use Rattle.board.specs.Boards.{console_at, frame_at, node_at}
 use Rattle.board.specs.Applied.{applied}
 use Rattle.board.specs.Deliver.{deliver}
@@ -54,8 +54,8 @@ Accepts a = accepted a.outcome ≡ true
 
 -- a decision that the board accepts
 abbrev Decides : Decision → Type 0
-Decides (Refuse r) = ⊥
-Decides (Accept d) = accepted d.outcome ≡ true
+Decides (Err r) = ⊥
+Decides (Ok d) = accepted d.outcome ≡ true
 
 -- a frame is taken, unless its node is down or a write has met the limit
 frame_taken : (σ : Setup) (c k : ℕ) (x : Console) (y : Node) (f : Frame) → y.up ≡ true
@@ -63,12 +63,12 @@ frame_taken : (σ : Setup) (c k : ℕ) (x : Console) (y : Node) (f : Frame) → 
     → Decides (on_frame σ c k x y f)
 unfolding on_frame on_ask on_put on_reply on_ack replied acknowledged heard finished turned discards awaits hears takes_in acked
 frame_taken σ c k x y Nothing up below = refl
-frame_taken σ c k x y Ask up below = all_yes Decides (node_is_up y ∷ []) Refuse (up also none) refl
-frame_taken σ c k x y (Put u v) up below = all_yes Decides (node_is_up y ∷ []) Refuse (up also none) refl
+frame_taken σ c k x y Ask up below = all_yes Decides (node_is_up y ∷ []) Err (up also none) refl
+frame_taken σ c k x y (Put u v) up below = all_yes Decides (node_is_up y ∷ []) Err (up also none) refl
 frame_taken σ c k x y (Reply u v) up below = split_but Decides (is_asking x.state) (member x.answered k)
     (λ p _. split Decides (ltb (size (insert x.answered k)) (ask_size σ)) (λ _. refl)
     (λ _. split Decides (finishes_early σ (hears x k u v)) (λ _. refl)
-    (λ _. all_yes Decides (has_next_ts (hears x k u v) ∷ []) Refuse
+    (λ _. all_yes Decides (has_next_ts (hears x k u v) ∷ []) Err
     (implies_of (writes x.state) (ltb (hears x k u v).best.ts max_ts) (λ w. lt-ltb (hears x k u v).best.ts max_ts (below u v refl p w)) also none) refl)))
     (λ _. refl)
 frame_taken σ c k x y Ack up below = split_but Decides (is_telling x.state) (member x.answered k)
@@ -77,14 +77,14 @@ frame_taken σ c k x y Ack up below = split_but Decides (is_telling x.state) (me
 -- the board answers as it was decided
 applied_taken : (b : Board) (c k : ℕ) (d : Decision) → Decides d → Accepts (applied b c k d)
 unfolding applied
-applied_taken b c k (Refuse r) t = absurd t
-applied_taken b c k (Accept d) t = t
+applied_taken b c k (Err r) t = absurd t
+applied_taken b c k (Ok d) t = t
 
 -- the delivery of a frame that is taken is accepted, and so is that of one that is withdrawn
 deliver_taken : {σ : Setup} (b : Board) (c k : ℕ) → BoardOk (Good σ) σ b → c < σ.m → k < σ.n → is_nothing (frame_at b c k) ≡ false
     → Decides (on_frame b.setup c k (console_at b c) (node_at b k) (frame_at b c k)) → Accepts (step b (Deliver c k))
 unfolding deliver delivered discards step
-deliver_taken b c k h cm kn full t = applied_taken b c k _ (all_yes Decides (is_well_formed (well_formed b) ∷ has_console b.setup c ∷ has_node b.setup k ∷ holds_frame (frame_at b c k) ∷ []) Refuse
+deliver_taken b c k h cm kn full t = applied_taken b c k _ (all_yes Decides (is_well_formed (well_formed b) ∷ has_console b.setup c ∷ has_node b.setup k ∷ holds_frame (frame_at b c k) ∷ []) Err
     (board_formed b h also lt-ltb c b.setup.m (omega (arith, m_is h.shape)) also lt-ltb k b.setup.n (omega (arith, n_is h.shape)) also (rw full) also none)
     (split Decides (is_withdrawn (console_at b c) (frame_at b c k)) (λ _. refl) (λ _. t)))
 

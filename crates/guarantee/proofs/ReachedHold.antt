@@ -5,6 +5,7 @@ use Prim.Native.Nat.{◌+◌, ◌*◌}
 use mathlib.Core.List.{List, map, ◌∷◌, []}
 use native.Mathlib.Omega.{arith}
 use mathlib.Core.Path.{refl, ◌≡◌}
+use Rattle.decisions.specs.Refusals.{refusal_number}
 use Rattle.parts.specs.Finite.{count}
 use Rattle.parts.specs.Sizes.{majority}
 use Rattle.parts.specs.declared.Release.TheVariants.{One, Two}
@@ -39,7 +40,7 @@ stuck_open : (whole (setup_of 3 1 One) stuck_steps).ops ≡ stuck_log
 unfolding whole stuck_steps stuck_log
 stuck_open = refl
 
-stuck_refused : map (λ k. (deliver (whole (setup_of 3 1 One) stuck_steps).board 0 k).refusal) (0 ∷ 1 ∷ 2 ∷ []) ≡ stuck_refusals
+stuck_refused : map (λ k. refusal_number (deliver (whole (setup_of 3 1 One) stuck_steps).board 0 k).refusal) (0 ∷ 1 ∷ 2 ∷ []) ≡ stuck_refusals
 unfolding whole stuck_steps stuck_refusals
 stuck_refused = refl
 
@@ -55,7 +56,7 @@ back_open : (whole (setup_of 3 1 One) back_steps).ops ≡ stuck_log
 unfolding whole back_steps stuck_log
 back_open = refl
 
-back_refused : map (λ k. (deliver (whole (setup_of 3 1 One) back_steps).board 0 k).refusal) (0 ∷ 1 ∷ 2 ∷ []) ≡ back_refusals
+back_refused : map (λ k. refusal_number (deliver (whole (setup_of 3 1 One) back_steps).board 0 k).refusal) (0 ∷ 1 ∷ 2 ∷ []) ≡ back_refusals
 unfolding whole back_steps back_refusals
 back_refused = refl
 
@@ -63,7 +64,7 @@ all_back_up : count 3 (whole (setup_of 3 1 One) all_back_steps).up ≡ 3
 unfolding whole all_back_steps
 all_back_up = refl
 
-all_back_refused : map (λ k. (deliver (whole (setup_of 3 1 One) all_back_steps).board 0 k).refusal) (0 ∷ 1 ∷ 2 ∷ []) ≡ all_back_refusals
+all_back_refused : map (λ k. refusal_number (deliver (whole (setup_of 3 1 One) all_back_steps).board 0 k).refusal) (0 ∷ 1 ∷ 2 ∷ []) ≡ all_back_refusals
 unfolding whole all_back_steps all_back_refusals
 all_back_refused = refl
 

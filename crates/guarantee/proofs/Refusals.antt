@@ -5,6 +5,10 @@ use mathlib.Core.Bool.{Bool, true}
 use mathlib.Core.List.{List, [], ◌∷◌}
 use mathlib.Core.Path.{refl, ◌≡◌}
 use lib.Dec.{ltb}
+use Rattle.std.specs.Prelude.{Ok, Err}
+use Rattle.decisions.specs.Refusals.{number_of}
+use Rattle.decisions.specs.declared.refusals.Refusal.{Refusal}
+use Rattle.decisions.specs.declared.refusals.Refusal.TheVariants.{NodeIsDown, TsUsedUp}
 use Rattle.parts.specs.AnsweredSet.{size}
 use Rattle.parts.specs.Outcomes.{accepted}
 use Rattle.parts.specs.Parts.{is_asking, is_telling}
@@ -17,11 +21,9 @@ use Rattle.parts.specs.declared.Kind.TheVariants.{Read, Write}
 use Rattle.parts.specs.declared.Node.{Node}
 use Rattle.parts.specs.declared.Setup.{Setup}
 use Rattle.decisions.specs.Changes.{acked, awaits, takes_in}
-use Rattle.decisions.specs.Steps.{begins, ends, falls, rises}
+use Rattle.decisions.specs.Steps.{Decision, begins, ends, falls, rises}
 use Rattle.decisions.specs.Deliver.{acknowledged, delivered, discards, finished, finishes_early, heard, is_withdrawn, on_ack, on_ask, on_frame, on_put, on_reply, replied, turned}
 use Rattle.decisions.specs.Questions.{Question, guarded, has_next_ts, node_is_up}
-use Rattle.decisions.specs.declared.Decision.{Decision}
-use Rattle.decisions.specs.declared.Decision.TheVariants.{Accept, Refuse}
 use Rattle.board.specs.Answers.{refuse}
 use Rattle.board.specs.Applied.{applied}
 use Rattle.board.specs.Boards.{console_at, frame_at, node_at}
@@ -36,21 +38,21 @@ use Rattle.guarantee.proofs.Laws.States.{contra, split}
 
 -- a decision that refuses with one of the numbers, or accepts
 abbrev Among : List ℕ → Decision → Type 0
-Among numbers (Refuse r) = Any (λ x. r ≡ x) numbers
-Among numbers (Accept d) = accepted d.outcome ≡ true
+Among numbers (Err r) = Any (λ x. number_of r ≡ x) numbers
+Among numbers (Ok d) = accepted d.outcome ≡ true
 
 -- a refusal hands back the board that it was given
-refused_numbered : {b : Board} {numbers : List ℕ} {r : ℕ} → Any (λ x. r ≡ x) numbers → Numbered b numbers (refuse b r)
+refused_numbered : {b : Board} {numbers : List ℕ} {r : Refusal} → Any (λ x. number_of r ≡ x) numbers → Numbered b numbers (refuse b r)
 refused_numbered i = record { refused_board = λ _. refl; refused_number = λ _. i; accepted_number = λ e. absurd (contra e refl) }
 
 -- what is decided so is answered so
 applied_numbered : {b : Board} {numbers : List ℕ} (c k : ℕ) (d : Decision) → Among numbers d → Numbered b numbers (applied b c k d)
 unfolding applied
-applied_numbered c k (Refuse r) i = refused_numbered i
-applied_numbered c k (Accept d) e = record { refused_board = λ n. absurd (contra e n); refused_number = λ n. absurd (contra e n); accepted_number = λ _. refl }
+applied_numbered c k (Err r) i = refused_numbered i
+applied_numbered c k (Ok d) e = record { refused_board = λ n. absurd (contra e n); refused_number = λ n. absurd (contra e n); accepted_number = λ _. refl }
 
 -- each of the questions refuses with its number, or what they guard comes
-asked : {A : Type 0} (P : A → Type 0) (qs : List Question) (refused : ℕ → A) {a : A} → All (λ q. P (refused q.number)) qs → P a → P (guarded qs refused a)
+asked : {A : Type 0} (P : A → Type 0) (qs : List Question) (refused : Refusal → A) {a : A} → All (λ q. P (refused q.refusal)) qs → P a → P (guarded qs refused a)
 unfolding guarded
 asked P [] refused none h = h
 asked P (q ∷ qs) refused (n also ns) h = split P q.yes (λ _. asked P qs refused ns h) (λ _. n)
@@ -59,35 +61,35 @@ asked P (q ∷ qs) refused (n also ns) h = split P q.yes (λ _. asked P qs refus
 
 begins_among : (formed : Bool) (σ : Setup) (c : ℕ) (w : Kind) (v : ℕ) (x : Console) → Among (1 ∷ 4 ∷ 6 ∷ 7 ∷ []) (begins formed σ c w v x)
 unfolding begins
-begins_among formed σ c w v x = asked (Among (1 ∷ 4 ∷ 6 ∷ 7 ∷ [])) _ Refuse (here refl also there (here refl) also there (there (here refl)) also there (there (there (here refl))) also none) refl
+begins_among formed σ c w v x = asked (Among (1 ∷ 4 ∷ 6 ∷ 7 ∷ [])) _ Err (here refl also there (here refl) also there (there (here refl)) also there (there (there (here refl))) also none) refl
 
 -- three questions, whatever their numbers
-three_among : (q₁ q₂ q₃ : Question) (d : Decision) → Among (q₁.number ∷ q₂.number ∷ q₃.number ∷ []) d
-    → Among (q₁.number ∷ q₂.number ∷ q₃.number ∷ []) (guarded (q₁ ∷ q₂ ∷ q₃ ∷ []) Refuse d)
-three_among q₁ q₂ q₃ d h = asked (Among (q₁.number ∷ q₂.number ∷ q₃.number ∷ [])) (q₁ ∷ q₂ ∷ q₃ ∷ []) Refuse (here refl also there (here refl) also there (there (here refl)) also none) h
+three_among : (q₁ q₂ q₃ : Question) (d : Decision) → Among (number_of q₁.refusal ∷ number_of q₂.refusal ∷ number_of q₃.refusal ∷ []) d
+    → Among (number_of q₁.refusal ∷ number_of q₂.refusal ∷ number_of q₃.refusal ∷ []) (guarded (q₁ ∷ q₂ ∷ q₃ ∷ []) Err d)
+three_among q₁ q₂ q₃ d h = asked (Among (number_of q₁.refusal ∷ number_of q₂.refusal ∷ number_of q₃.refusal ∷ [])) (q₁ ∷ q₂ ∷ q₃ ∷ []) Err (here refl also there (here refl) also there (there (here refl)) also none) h
 
 -- the refusals of a delivery
 abbrev deliver's : List ℕ
 deliver's = 1 ∷ 4 ∷ 5 ∷ 8 ∷ 9 ∷ 10 ∷ []
 
 -- 9 and 10 are of the questions that only some frames come to
-nine : Among deliver's (Refuse 9)
+nine : Among deliver's (Err NodeIsDown)
 nine = there (there (there (there (here refl))))
 
-ten : Among deliver's (Refuse 10)
+ten : Among deliver's (Err TsUsedUp)
 ten = there (there (there (there (there (here refl)))))
 
 frame_among : (σ : Setup) (c k : ℕ) (x : Console) (y : Node) (f : Frame) → Among deliver's (on_frame σ c k x y f)
 unfolding on_frame on_ask on_put on_reply on_ack replied acknowledged heard finished turned discards
 frame_among σ c k x y Nothing = refl
-frame_among σ c k x y Ask = asked (Among deliver's) (node_is_up y ∷ []) Refuse (nine also none) refl
-frame_among σ c k x y (Put t v) = asked (Among deliver's) (node_is_up y ∷ []) Refuse (nine also none) refl
+frame_among σ c k x y Ask = asked (Among deliver's) (node_is_up y ∷ []) Err (nine also none) refl
+frame_among σ c k x y (Put t v) = asked (Among deliver's) (node_is_up y ∷ []) Err (nine also none) refl
 frame_among σ c k x y (Reply t v) =
     let r = takes_in x k t v in
     split (Among deliver's) (awaits is_asking x k)
     (λ _. split (Among deliver's) (ltb (size r.console.answered) (ask_size σ)) (λ _. refl)
     (λ _. split (Among deliver's) (finishes_early σ r.console) (λ _. refl)
-    (λ _. asked (Among deliver's) (has_next_ts r.console ∷ []) Refuse (ten also none) refl)))
+    (λ _. asked (Among deliver's) (has_next_ts r.console ∷ []) Err (ten also none) refl)))
     (λ _. refl)
 frame_among σ c k x y Ack =
     split (Among deliver's) (awaits is_telling x k)
@@ -96,7 +98,7 @@ frame_among σ c k x y Ack =
 
 delivered_among : (formed : Bool) (σ : Setup) (c k : ℕ) (x : Console) (y : Node) (f : Frame) → Among deliver's (delivered formed σ c k x y f)
 unfolding delivered discards
-delivered_among formed σ c k x y f = asked (Among deliver's) _ Refuse (here refl also there (here refl) also there (there (here refl)) also there (there (there (here refl))) also none)
+delivered_among formed σ c k x y f = asked (Among deliver's) _ Err (here refl also there (here refl) also there (there (here refl)) also there (there (there (here refl))) also none)
     (split (Among deliver's) (is_withdrawn x f) (λ _. refl) (λ _. frame_among σ c k x y f))
 
 -- ---- the theorems

@@ -3,6 +3,7 @@
 use Rattle.std.specs.Prelude.{ℕ, true, false, List, [], ◌∷◌, ◌≡◌}
 use Rattle.parts.specs.declared.Setup.{Setup}
 use Rattle.parts.specs.Outcomes.{accepted}
+use Rattle.decisions.specs.Refusals.{refusal_number}
 use Rattle.board.specs.declared.Board.{Board}
 use Rattle.board.specs.declared.Answer.{Answer}
 use Rattle.board.specs.Boards.{fresh_board}
@@ -28,8 +29,8 @@ pub record Numbered (b : Board) (numbers : List ℕ) (a : Answer) : Type 0 where
   -- 'a refused step hands back, unchanged, the board it was given'
   pub refused_board : accepted a.outcome ≡ false → a.board ≡ b
   -- 'every step .. ends with a result or one of the numbered refusals'
-  pub refused_number : accepted a.outcome ≡ false → Any (λ r. a.refusal ≡ r) numbers
-  pub accepted_number : accepted a.outcome ≡ true → a.refusal ≡ 0
+  pub refused_number : accepted a.outcome ≡ false → Any (λ r. refusal_number a.refusal ≡ r) numbers
+  pub accepted_number : accepted a.outcome ≡ true → refusal_number a.refusal ≡ 0
 
 -- 'every step on every input, a mangled board included'; of fresh, which is given no board, below
 abbrev pub Demand1 : Type 0

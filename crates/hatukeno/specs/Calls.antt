@@ -2,6 +2,7 @@
 use Rattle.std.specs.Prelude.{ℕ, cond, List, [], ◌∷◌, ◌≡◌, eqb, leb, length}
 use Rattle.std.proofs.lemmas.List.Edits.{sets}
 use Rattle.parts.specs.Outcomes.{accepted, outcome_number, outcome_tag, outcome_value, compared_number}
+use Rattle.decisions.specs.Refusals.{refusal_number}
 use Rattle.board.specs.declared.Answer.{Answer}
 use Rattle.layout.specs.Layout.{board_words, encoded}
 
@@ -11,7 +12,7 @@ answer_words = 6
 
 -- outcome, refusal, tag, value and comparison
 unfoldable pub answer_fields : Answer → List ℕ
-answer_fields a = outcome_number a.outcome ∷ a.refusal ∷ (outcome_tag a.outcome).ts ∷ (outcome_tag a.outcome).console ∷ outcome_value a.outcome ∷ compared_number a.compared ∷ []
+answer_fields a = outcome_number a.outcome ∷ refusal_number a.refusal ∷ (outcome_tag a.outcome).ts ∷ (outcome_tag a.outcome).console ∷ outcome_value a.outcome ∷ compared_number a.compared ∷ []
 
 -- in the words from p on
 unfoldable pub put_answer : List ℕ → ℕ → Answer → List ℕ

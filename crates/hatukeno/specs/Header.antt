@@ -1,9 +1,10 @@
 -- What bindings/c/board.h says of the words of an answer, and of those of a step in a list. Words that changed places in
 -- definition and code would meet every contract; these lists hold them to the header.
-use Rattle.std.specs.Prelude.{ℕ, List, [], ◌∷◌, ◌≡◌}
+use Rattle.std.specs.Prelude.{ℕ, List, [], ◌∷◌, ◌≡◌, Some}
 use Rattle.parts.specs.declared.Tag.{Tag}
 use Rattle.parts.specs.declared.Outcome.TheVariants.{Done, Handed, Finished}
-use Rattle.parts.specs.declared.Compared.TheVariants.{Lower, Same, Higher}
+use Rattle.std.specs.declared.cmp.Ordering.TheVariants.{Less, Equal, Greater}
+use Rattle.decisions.specs.declared.refusals.Refusal.TheVariants.{NodeIsDown}
 use Rattle.board.specs.declared.Board.{Board}
 use Rattle.board.specs.Answers.{answer, answer_with, refuse}
 use Rattle.board.specs.Boards.{no_board}
@@ -19,13 +20,13 @@ tag = record { ts = 21; console = 6 }
 -- what the definitions give
 unfoldable pub as_written : List (List ℕ)
 as_written =
-    answer_fields (refuse no_board 9)
+    answer_fields (refuse no_board NodeIsDown)
     ∷ answer_fields (answer Done no_board)
     ∷ answer_fields (answer Handed no_board)
     ∷ answer_fields (answer (Finished tag 42) no_board)
-    ∷ answer_fields (answer_with Lower (Finished tag 42) no_board)
-    ∷ answer_fields (answer_with Same (Finished tag 42) no_board)
-    ∷ answer_fields (answer_with Higher (Finished tag 42) no_board)
+    ∷ answer_fields (answer_with (Some Less) (Finished tag 42) no_board)
+    ∷ answer_fields (answer_with (Some Equal) (Finished tag 42) no_board)
+    ∷ answer_fields (answer_with (Some Greater) (Finished tag 42) no_board)
     ∷ []
 
 -- what the header says

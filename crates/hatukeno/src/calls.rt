@@ -12,6 +12,7 @@ use board::{Answer, Board};
 use layout::BOARD_WORDS;
 use layout::reading::decode;
 use layout::writing::{encode, put_words};
+use parts::outcomes::compared_number;
 use parts::{ConsoleId, NodeId, Release};
 
 // The words of an answer.
@@ -23,16 +24,14 @@ pub(crate) fn put_answer(s: &mut [u32], p: usize, a: Answer)
     requires { p + answer_words ≤ length s.old }
     ensures { s.new ≡ put_answer s.old p a }
 {
-    let o = a.outcome;
-    let t = o.tag();
-    let compared = a.compared;
+    let tag = a.outcome.tag();
     let fields = [
-        o.number(),
-        a.refusal,
-        t.ts,
-        t.console,
-        o.value(),
-        compared.number(),
+        a.outcome.number(),
+        a.refusal_number(),
+        tag.ts,
+        tag.console,
+        a.outcome.value(),
+        compared_number(a.compared),
     ];
     put_words(s, p, &fields);
 }
@@ -43,10 +42,8 @@ fn keep(w: &mut [u32], a: Answer)
     requires { board_words ≤ length w.old }
     ensures { w.new ≡ kept w.old a }
 {
-    let o = a.outcome;
-    if o.is_accepted() {
-        let b = a.board;
-        encode(w, b);
+    if a.outcome.is_accepted() {
+        encode(w, a.board);
     }
 }
 

@@ -39,13 +39,11 @@ fn list_short_by(w: usize, q: usize, s: usize) -> u32
 fn go_on(x: Midway, a: Answer) -> Midway
     ensures { result ≡ go_on x a }
 {
-    let o = a.outcome;
-    if !o.is_accepted() {
+    if !a.outcome.is_accepted() {
         return x;
     }
-    let b = a.board;
     Midway {
-        board: b,
+        board: a.board,
         moved: true,
     }
 }
@@ -57,8 +55,7 @@ fn keep_after(w: &mut [u32], x: Midway)
     ensures { w.new ≡ kept_after w.old x }
 {
     if x.moved {
-        let b = x.board;
-        encode(w, b);
+        encode(w, x.board);
     }
 }
 
@@ -98,8 +95,7 @@ fn run_steps(q: &[u32], s: &mut [u32], b: Board) -> Midway
         x = go_on(x, a);
         i += 1;
         if !formed {
-            let next = x.board;
-            formed = next.is_well_formed();
+            formed = x.board.is_well_formed();
         }
     }
     x

@@ -4,6 +4,7 @@ use Rattle.well_formed.specs.Clauses.{nodes_allowed, setup_ok}
 use Rattle.decisions.specs.Questions.{guarded}
 use Rattle.decisions.specs.Steps.{begins, ends, falls, rises}
 use Rattle.decisions.specs.Deliver.{delivered}
+use Rattle.decisions.specs.declared.refusals.Refusal.TheVariants.{NotWellFormed}
 use Rattle.board.specs.Answers.{refuse}
 use Rattle.board.specs.Applied.{applied}
 use Rattle.board.specs.Boards.{no_board, fresh_board}
@@ -14,7 +15,7 @@ use Rattle.board.specs.WellFormed.{well_formed}
 use Rattle.layout.specs.Standing.{decoded}
 use Rattle.layout.specs.Claims.{DamageRefused}
 
-none_refuses : (s : Step) → step no_board s ≡ refuse no_board 1
+none_refuses : (s : Step) → step no_board s ≡ refuse no_board NotWellFormed
 unfolding step begin node_down node_up console_down deliver begins ends falls rises delivered guarded applied well_formed setup_ok nodes_allowed fresh_board
 none_refuses (BeginRead c) = refl
 none_refuses (BeginWrite c v) = refl

@@ -1,5 +1,6 @@
 -- What is claimed of a board in words; proved in proofs/RoundTrip.antt, WrittenBack.antt and Damaged.antt.
 use Rattle.std.specs.Prelude.{ℕ, ◌≤◌, true, false, List, ◌≡◌, length}
+use Rattle.decisions.specs.declared.refusals.Refusal.TheVariants.{NotWellFormed}
 use Rattle.board.specs.declared.Board.{Board}
 use Rattle.board.specs.Answers.{refuse}
 use Rattle.board.specs.Boards.{no_board}
@@ -17,4 +18,4 @@ WrittenBack = (w : List ℕ) → stands w ≡ true → encoded w (decoded w) ≡
 
 -- all other words are refused with 1 by every step but fresh
 abbrev pub DamageRefused : Type 0
-DamageRefused = (w : List ℕ) → stands w ≡ false → (s : Step) → step (decoded w) s ≡ refuse no_board 1
+DamageRefused = (w : List ℕ) → stands w ≡ false → (s : Step) → step (decoded w) s ≡ refuse no_board NotWellFormed

@@ -1,5 +1,7 @@
 -- Schedules (document 02, Paper 1): what a program that reads an input of lines writes.
 use Rattle.std.specs.Prelude.{ℕ, ◌+◌, ◌-◌, ◌^◌, min, cond, List, [], ◌∷◌, ◌++◌}
+use Rattle.decisions.specs.Refusals.{refusal_number}
+use Rattle.decisions.specs.declared.refusals.Refusal.TheVariants.{NotThreeFields, LineTooLong}
 use Rattle.board.specs.declared.Answer.{Answer}
 use Rattle.board.specs.declared.Board.{Board}
 use Rattle.board.specs.Answers.{refuse}
@@ -17,8 +19,8 @@ use Rattle.verbs.specs.Verbs.{step_of}
 -- 'It refuses a line over 64 bytes with 13, then one that is not three such fields with 11, then an unknown verb with 12
 -- [step_of], all before document 01's questions'
 unfoldable pub answer_of : Line → Board → Answer
-answer_of TooLong b = refuse b 13
-answer_of NotThree b = refuse b 11
+answer_of TooLong b = refuse b LineTooLong
+answer_of NotThree b = refuse b NotThreeFields
 answer_of (Numbers v x y) b = step_of v x y b
 
 -- the answer to a line
@@ -36,7 +38,7 @@ line_output n a =
     record {
       number = n;
       fields =
-          a.refusal
+          refusal_number a.refusal
           ∷ outcome_number a.outcome
           ∷ (outcome_tag a.outcome).ts
           ∷ (outcome_tag a.outcome).console

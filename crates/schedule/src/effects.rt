@@ -5,7 +5,7 @@ ghost use Rattle.board.specs.WellFormed.{well_formed};
 ghost use Rattle.csv_lines.specs.Writing.{line_bytes};
 ghost use Rattle.schedule.specs.Schedule.{answer_to, board_after, line_output, effect_of, next_number};
 
-use board::refusals::{LINE_TOO_LONG, NOT_THREE_FIELDS};
+use board::refusals::Refusal;
 use board::{Answer, Board};
 use csv_lines::reading::read_line;
 use csv_lines::writing::put_line;
@@ -38,8 +38,8 @@ fn answer_to(line: &[u8], b: Board, formed: bool) -> Answer
 {
     let l = read_line(line);
     match l {
-        Line::TooLong => Answer::refused(LINE_TOO_LONG, b),
-        Line::NotThree => Answer::refused(NOT_THREE_FIELDS, b),
+        Line::TooLong => Answer::refused(Refusal::LineTooLong, b),
+        Line::NotThree => Answer::refused(Refusal::NotThreeFields, b),
         Line::Numbers(verb, x, y) => step_known(b, formed, verb, x, y),
     }
 }
@@ -49,12 +49,7 @@ fn answer_to(line: &[u8], b: Board, formed: bool) -> Answer
 fn board_after(b: Board, a: Answer) -> Board
     ensures { result ≡ board_after b a }
 {
-    let o = a.outcome;
-    if !o.is_accepted() {
-        return b;
-    }
-    let next = a.board;
-    next
+    if a.outcome.is_accepted() { a.board } else { b }
 }
 
 // The output line of an answer.
@@ -62,11 +57,16 @@ fn board_after(b: Board, a: Answer) -> Board
 fn output_of(number: u64, a: Answer) -> Output
     ensures { result ≡ line_output number a }
 {
-    let o = a.outcome;
-    let t = o.tag();
+    let tag = a.outcome.tag();
     Output {
-        number: number,
-        fields: [a.refusal, o.number(), t.ts, t.console, o.value()],
+        number,
+        fields: [
+            a.refusal_number(),
+            a.outcome.number(),
+            tag.ts,
+            tag.console,
+            a.outcome.value(),
+        ],
     }
 }
 
@@ -87,9 +87,8 @@ pub(crate) fn run_line(
 {
     let a = answer_to(line, b, formed);
     let end = put_line(out, at, output_of(number, a));
-    let next = board_after(b, a);
     LineRun {
-        board: next,
+        board: board_after(b, a),
         wrote: end,
     }
 }

@@ -2,6 +2,7 @@
 -- console down', and node up 'is verb 6'.
 use Rattle.std.specs.Prelude.{ℕ, zero, suc}
 use Rattle.parts.specs.declared.Release.TheVariants.{One}
+use Rattle.decisions.specs.declared.refusals.Refusal.TheVariants.{NoSuchVerb}
 use Rattle.board.specs.declared.Answer.{Answer}
 use Rattle.board.specs.declared.Board.{Board}
 use Rattle.board.specs.Answers.{refuse}
@@ -18,4 +19,4 @@ step_of (suc (suc (suc zero))) x y b = deliver b x y
 step_of (suc (suc (suc (suc zero)))) x y b = node_down b x
 step_of (suc (suc (suc (suc (suc zero))))) x y b = console_down b x
 step_of (suc (suc (suc (suc (suc (suc zero)))))) x y b = node_up b x
-step_of (suc (suc (suc (suc (suc (suc (suc z))))))) x y b = refuse b 12
+step_of (suc (suc (suc (suc (suc (suc (suc z))))))) x y b = refuse b NoSuchVerb

@@ -5,7 +5,7 @@ ghost use Rattle.std.specs.Prelude.{◌≡◌};
 ghost use Rattle.board.specs.WellFormed.{well_formed};
 ghost use Rattle.verbs.specs.Verbs.{step_of};
 
-use board::refusals::NO_SUCH_VERB;
+use board::refusals::Refusal;
 use board::{Answer, Board};
 use parts::{ConsoleId, NodeId};
 
@@ -29,6 +29,6 @@ pub fn step_known(b: Board, formed: bool, verb: u32, x: u32, y: u32) -> Answer
         4 => b.node_down_known(formed, NodeId(x)),
         5 => b.console_down_known(formed, ConsoleId(x)),
         6 => b.node_up_known(formed, NodeId(x)),
-        7..=4294967295 => Answer::refused(NO_SUCH_VERB, b),
+        7..=4294967295 => Answer::refused(Refusal::NoSuchVerb, b),
     }
 }

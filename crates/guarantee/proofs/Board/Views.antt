@@ -6,14 +6,14 @@ use mathlib.Core.Path.{refl, ◌≡◌}
 use native.Mathlib.Omega.{arith}
 use borrow.Author.Tests.{ltb-true, ltb-false, le-leb}
 use lib.Dec.{ltb}
+use Rattle.std.specs.Prelude.{Option, None, Some, Err}
 use Rattle.parts.proofs.FiniteLaws.{and_right, implied}
 use Rattle.parts.specs.AnsweredSet.{insert, member, size}
 use Rattle.parts.specs.Limits.{max_ts}
 use Rattle.parts.specs.Parts.{goes_to_node, is_asking, is_nothing, is_telling, is_up, writes}
 use Rattle.parts.specs.Sizes.{ask_size, tell_size}
 use Rattle.parts.specs.Tags.{compared}
-use Rattle.parts.specs.declared.Compared.TheVariants.{None}
-use Rattle.parts.specs.declared.Compared.{Compared}
+use Rattle.std.specs.declared.cmp.Ordering.{Ordering}
 use Rattle.parts.specs.declared.Console.{Console}
 use Rattle.parts.specs.declared.Frame.{Frame}
 use Rattle.parts.specs.declared.Frame.TheVariants.{Ack, Ask, Nothing, Put, Reply}
@@ -24,11 +24,10 @@ use Rattle.parts.specs.declared.State.TheVariants.{Down, Idle}
 use Rattle.parts.specs.declared.Tag.{Tag}
 use Rattle.well_formed.specs.Clauses.{consoles_allowed, nodes_allowed}
 use Rattle.decisions.specs.Changes.{acked, asks, awaits, hears, rests, taken, takes_in, tells, with_up}
-use Rattle.decisions.specs.Steps.{accept, begins as beginning, ends, falls, rises}
+use Rattle.decisions.specs.Steps.{Decision, accept, begins as beginning, ends, falls, rises}
 use Rattle.decisions.specs.Deliver.{acknowledged, delivered as decided, discards, finished as finishes, finishes_early, heard, is_withdrawn, on_ack, on_ask, on_frame, on_put, on_reply, replied, turned as turning}
 use Rattle.decisions.specs.Questions.{Question, console_is_idle, console_is_up, guarded, has_allowed_consoles, has_allowed_nodes, has_console, has_next_ts, has_node, holds_frame, is_well_formed, node_is_down, node_is_up}
-use Rattle.decisions.specs.declared.Decision.{Decision}
-use Rattle.decisions.specs.declared.Decision.TheVariants.{Refuse}
+use Rattle.decisions.specs.declared.refusals.Refusal.{Refusal}
 use Rattle.decisions.specs.declared.Part.TheVariants.{NodeTo}
 use Rattle.decisions.specs.declared.Sent.TheVariants.{Keep}
 use Rattle.board.specs.Answers.{answer, answer_with, refuse}
@@ -49,12 +48,12 @@ abbrev pub Yes : Question → Type 0
 Yes q = q.yes ≡ true
 
 -- of a step or a decision: either one of its questions refuses, or all are answered yes
-pub questions : {A : Type 0} (P : A → Type 0) (qs : List Question) {refused : ℕ → A} {a : A} → ((r : ℕ) → P (refused r)) → (All Yes qs → P a) → P (guarded qs refused a)
+pub questions : {A : Type 0} (P : A → Type 0) (qs : List Question) {refused : Refusal → A} {a : A} → ((r : Refusal) → P (refused r)) → (All Yes qs → P a) → P (guarded qs refused a)
 unfolding guarded
 questions P [] n h = h none
-questions P (q ∷ qs) n h = split P q.yes (λ e. questions P qs n (λ es. h (e also es))) (λ _. n q.number)
+questions P (q ∷ qs) n h = split P q.yes (λ e. questions P qs n (λ es. h (e also es))) (λ _. n q.refusal)
 
-pub all_yes : {A : Type 0} (P : A → Type 0) (qs : List Question) (refused : ℕ → A) {a : A} → All Yes qs → P a → P (guarded qs refused a)
+pub all_yes : {A : Type 0} (P : A → Type 0) (qs : List Question) (refused : Refusal → A) {a : A} → All Yes qs → P a → P (guarded qs refused a)
 unfolding guarded
 all_yes P [] refused none h = h
 all_yes P (q ∷ qs) refused (e also es) h = rw e (all_yes P qs refused es h)
@@ -65,25 +64,25 @@ all_yes P (q ∷ qs) refused (e also es) h = rw e (all_yes P qs refused es h)
 unfoldable pub turned : Board → ℕ → Console → Board
 turned b c x = with_console (with_row b c (Put (tells c x).best (tells c x).value)) c (tells c x)
 
-unfoldable pub finished : Compared → Board → ℕ → ℕ → Console → Answer
+unfoldable pub finished : Option Ordering → Board → ℕ → ℕ → Console → Answer
 finished how b c k x = answer_with how (Finished x.best x.value) (with_console (with_frame b c k Nothing) c (rests Idle x))
 
 -- a delivery in range that no question refused
 pub data Delivered (b : Board) (c k : ℕ) : Answer → Type 0 where
-  no : {r : ℕ} → Delivered b c k (refuse b r)
+  no : {r : Refusal} → Delivered b c k (refuse b r)
   ask : frame_at b c k ≡ Ask → Delivered b c k (answer Handed (with_frame b c k (Reply (node_at b k).tag (node_at b k).value)))
   put : {u : Tag} {v : ℕ} → frame_at b c k ≡ Put u v → Delivered b c k (answer Handed (with_node (with_frame b c k Ack) k (taken (node_at b k) u v)))
   hear : {u : Tag} {v : ℕ} → frame_at b c k ≡ Reply u v → is_asking (console_at b c).state ≡ true → member (console_at b c).answered k ≡ false
       → size (insert (console_at b c).answered k) < ask_size b.setup
-      → Delivered b c k (answer_with (compared u (console_at b c).best) Heard (with_console (with_frame b c k Nothing) c (hears (console_at b c) k u v)))
+      → Delivered b c k (answer_with (Some (compared u (console_at b c).best)) Heard (with_console (with_frame b c k Nothing) c (hears (console_at b c) k u v)))
   turn : {u : Tag} {v : ℕ} → frame_at b c k ≡ Reply u v → is_asking (console_at b c).state ≡ true → member (console_at b c).answered k ≡ false
       → ask_size b.setup ≤ size (insert (console_at b c).answered k)
       → (writes (console_at b c).state ≡ true → (hears (console_at b c) k u v).best.ts < max_ts)
-      → Delivered b c k (answer_with (compared u (console_at b c).best) Turned (turned b c (hears (console_at b c) k u v)))
+      → Delivered b c k (answer_with (Some (compared u (console_at b c).best)) Turned (turned b c (hears (console_at b c) k u v)))
   finish_early : {u : Tag} {v : ℕ} → frame_at b c k ≡ Reply u v → is_asking (console_at b c).state ≡ true → member (console_at b c).answered k ≡ false
       → ask_size b.setup ≤ size (insert (console_at b c).answered k)
       → finishes_early b.setup (hears (console_at b c) k u v) ≡ true
-      → Delivered b c k (finished (compared u (console_at b c).best) b c k (hears (console_at b c) k u v))
+      → Delivered b c k (finished (Some (compared u (console_at b c).best)) b c k (hears (console_at b c) k u v))
   hear_ack : frame_at b c k ≡ Ack → is_telling (console_at b c).state ≡ true → member (console_at b c).answered k ≡ false
       → size (insert (console_at b c).answered k) < tell_size b.setup
       → Delivered b c k (answer Heard (with_console (with_frame b c k Nothing) c (acked (console_at b c) k)))
@@ -98,7 +97,7 @@ pub data Delivered (b : Board) (c k : ℕ) : Answer → Type 0 where
 
 -- every delivery is a refusal, or is in range and one of the above
 pub data Ranged (b : Board) (c k : ℕ) : Answer → Type 0 where
-  out : {r : ℕ} → Ranged b c k (refuse b r)
+  out : {r : Refusal} → Ranged b c k (refuse b r)
   into : {a : Answer} → c < b.setup.m → k < b.setup.n → Delivered b c k a → Ranged b c k a
 
 module _ (b : Board) (c k : ℕ) where
@@ -150,7 +149,7 @@ unfoldable pub begun : Board → ℕ → Kind → ℕ → Board
 begun b c w v = with_console (with_row b c Ask) c (asks w v (console_at b c))
 
 pub data Begun (b : Board) (c : ℕ) (w : Kind) (v : ℕ) : Answer → Type 0 where
-  no_begin : {r : ℕ} → Begun b c w v (refuse b r)
+  no_begin : {r : Refusal} → Begun b c w v (refuse b r)
   did_begin : c < b.setup.m → (console_at b c).state ≡ Idle → Begun b c w v (answer Done (begun b c w v))
 
 pub begins : (b : Board) (c : ℕ) (w : Kind) (v : ℕ) → Begun b c w v (begin b c w v)
@@ -162,12 +161,12 @@ begins b c w v = questions (λ d. Begun b c w v (applied b c 0 d)) _ (λ _. no_b
 
 -- a node goes down or comes back
 pub data Switched (u : Bool) (b : Board) (k : ℕ) : Answer → Type 0 where
-  no_node : {r : ℕ} → Switched u b k (refuse b r)
+  no_node : {r : Refusal} → Switched u b k (refuse b r)
   did_node : k < b.setup.n → Switched u b k (answer Done (with_node b k (with_up u (node_at b k))))
 
 -- whatever the last question is
 switches : (u : Bool) (b : Board) (k : ℕ) (q : Question)
-    → Switched u b k (applied b 0 k (guarded (is_well_formed (well_formed b) ∷ has_node b.setup k ∷ q ∷ []) Refuse (accept None Done (NodeTo (with_up u (node_at b k))) Keep)))
+    → Switched u b k (applied b 0 k (guarded (is_well_formed (well_formed b) ∷ has_node b.setup k ∷ q ∷ []) Err (accept None Done (NodeTo (with_up u (node_at b k))) Keep)))
 unfolding applied with_sent with_part
 switches u b k q = questions (λ d. Switched u b k (applied b 0 k d)) (is_well_formed (well_formed b) ∷ has_node b.setup k ∷ q ∷ []) (λ _. no_node) yes
   where
@@ -183,7 +182,7 @@ unfolding node_up rises
 nodes_up b k = switches true b k (node_is_down (node_at b k))
 
 pub data ConsolesDown (b : Board) (c : ℕ) : Answer → Type 0 where
-  no_console : {r : ℕ} → ConsolesDown b c (refuse b r)
+  no_console : {r : Refusal} → ConsolesDown b c (refuse b r)
   did_console : c < b.setup.m → ConsolesDown b c (answer Done (with_console b c (rests Down (console_at b c))))
 
 pub consoles_down : (b : Board) (c : ℕ) → ConsolesDown b c (console_down b c)

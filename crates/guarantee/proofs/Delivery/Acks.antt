@@ -6,7 +6,7 @@ use native.Mathlib.Omega.{arith}
 use Rattle.parts.specs.AnsweredSet.{insert, member, size}
 use Rattle.parts.specs.Parts.{is_telling}
 use Rattle.parts.specs.Sizes.{tell_size}
-use Rattle.parts.specs.declared.Compared.TheVariants.{None}
+use Rattle.std.specs.Prelude.{None}
 use Rattle.parts.specs.declared.Console.{Console}
 use Rattle.parts.specs.declared.Frame.{Frame}
 use Rattle.parts.specs.declared.Frame.TheVariants.{Ack, Nothing}

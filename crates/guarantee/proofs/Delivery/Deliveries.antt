@@ -9,6 +9,7 @@ use Rattle.parts.specs.Sizes.{ask_size, tell_size}
 use Rattle.parts.specs.declared.Frame.TheVariants.{Reply}
 use Rattle.parts.specs.declared.Setup.{Setup}
 use Rattle.parts.specs.declared.Tag.{Tag}
+use Rattle.decisions.specs.declared.refusals.Refusal.{Refusal}
 use Rattle.decisions.specs.Changes.{hears, next_tag}
 use Rattle.board.specs.Answers.{refuse}
 use Rattle.board.specs.Boards.{console_at, frame_at}
@@ -24,7 +25,7 @@ use Rattle.guarantee.proofs.Delivery.Replies.{early_effect, hear_effect, turn_ef
 use Rattle.guarantee.proofs.Delivery.Acks.{hear_ack_effect, last_ack_effect}
 
 pub data StepEffect (K : TagKind) (σ : Setup) (c : ℕ) (b : Board) : Answer → Type 0 where
-  refusal : {r : ℕ} → StepEffect K σ c b (refuse b r)
+  refusal : {r : Refusal} → StepEffect K σ c b (refuse b r)
   effect : {a : Answer} → c < σ.m → Effect K σ c b a → StepEffect K σ c b a
 
 -- where a write turns, the tag that it chooses is of the kind K: the one thing that a step asks of a kind

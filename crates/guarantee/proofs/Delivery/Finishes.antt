@@ -5,7 +5,8 @@ use mathlib.Core.Path.{refl, ap, ◌≡◌}
 use native.Mathlib.Omega.{arith}
 use Rattle.parts.specs.Finite.{one}
 use Rattle.parts.specs.Parts.{is_waiting, writes}
-use Rattle.parts.specs.declared.Compared.{Compared}
+use Rattle.std.specs.declared.cmp.Ordering.{Ordering}
+use Rattle.std.specs.Prelude.{Option}
 use Rattle.parts.specs.declared.Console.{Console}
 use Rattle.parts.specs.declared.Frame.TheVariants.{Nothing}
 use Rattle.parts.specs.declared.Setup.{Setup}
@@ -50,7 +51,7 @@ module _ {K : TagKind} {σ : Setup} {b : Board} {c k : ℕ} (d : Delivery K σ b
   unfolding node_at with_console with_frame
   still_held h = h
 
-  pub finish_effect : (how : Compared) → Finishes K σ b c x → Effect K σ c b (finished how b c k x)
+  pub finish_effect : (how : Option Ordering) → Finishes K σ b c x → Effect K σ c b (finished how b c k x)
   unfolding finished
   finish_effect how f = record {
     ok = idle_ok;

@@ -5,6 +5,7 @@ use mathlib.Core.Path.{refl, ap, ◌≡◌}
 use native.Mathlib.Omega.{arith}
 use borrow.Author.Tests.{not-true}
 use lib.Dec.{eqb}
+use Rattle.std.specs.Prelude.{Some}
 use Rattle.parts.proofs.FiniteLaws.{and_left, and_right}
 use Rattle.parts.specs.AnsweredSet.{insert, member, size}
 use Rattle.parts.specs.Finite.{one}
@@ -87,7 +88,7 @@ module _ {K : TagKind} {σ : Setup} {b : Board} {c k : ℕ} (d : Delivery K σ b
 
   -- ---- heard
 
-  pub hear_effect : size (insert (console_at b c).answered k) < ask_size b.setup → Effect K σ c b (answer_with (compared u (console_at b c).best) Heard (with_console (with_frame b c k Nothing) c x₁))
+  pub hear_effect : size (insert (console_at b c).answered k) < ask_size b.setup → Effect K σ c b (answer_with (Some (compared u (console_at b c).best)) Heard (with_console (with_frame b c k Nothing) c x₁))
   unfolding hears
   hear_effect few = record {
     ok = console_ok_lem d x₁ heard_kind (hears_ok σ (console_at b c) k u v (five d) d.k_n p was_waiting un (omega (arith, few, ap ask_size d.ok.shape.setup_is))) hear_row;
@@ -100,9 +101,9 @@ module _ {K : TagKind} {σ : Setup} {b : Board} {c k : ℕ} (d : Delivery K σ b
 
   -- ---- finished early
 
-  pub early_effect : ask_size σ ≤ size (insert (console_at b c).answered k) → finishes_early b.setup x₁ ≡ true → Effect K σ c b (finished (compared u (console_at b c).best) b c k x₁)
+  pub early_effect : ask_size σ ≤ size (insert (console_at b c).answered k) → finishes_early b.setup x₁ ≡ true → Effect K σ c b (finished (Some (compared u (console_at b c).best)) b c k x₁)
   unfolding hears
-  early_effect all early = finish_effect d x₁ (compared u (console_at b c).best) (record {
+  early_effect all early = finish_effect d x₁ (Some (compared u (console_at b c).best)) (record {
     waits = asking_waits (console_at b c).state p;
     held = early_held σ x₁ row₁ (tags b) (five d) p (early_alike b.setup x₁ early) (omega (arith, all, tell_le_ask σ)) hear_row;
     floor = λ t g. omega (arith, floor_heard all t g, ap one (early_reads b.setup x₁ early));
@@ -175,7 +176,7 @@ module _ {K : TagKind} {σ : Setup} {b : Board} {c k : ℕ} (d : Delivery K σ b
     unfolding node_at with_console with_row turned
     turn_ups j = refl
 
-    pub turn_effect : Effect K σ c b (answer_with (compared u (console_at b c).best) Turned (turned b c x₁))
+    pub turn_effect : Effect K σ c b (answer_with (Some (compared u (console_at b c).best)) Turned (turned b c x₁))
     turn_effect = record {
       ok = turn_ok;
       beside = turn_side;

@@ -9,6 +9,6 @@ use Rattle.board.proofs.Board.deliver_known.Goals as goal
 pub returns : goal.returns
 unfolding deliver
 returns c = λ e.
-    let parts = rw (c.console_at-x.ensures, c.node_at-y.ensures, c.frame_at-f.ensures) at c.delivered-d.ensures in
+    let parts = rw (c.console_at-x.ensures, c.node_at-y.ensures, c.frame_at-f.ensures) at c.delivered-decision.ensures in
     let d = parts (λ t. comparable _ (sym e ∙ t) _ _) in
     rw (sym e) (c.apply.ensures ∙ ap (applied _ _ _) d)
