@@ -48,6 +48,6 @@ impl Answer {
     pub fn refusal_number(self) -> u32
         ensures { result ≡ refusal_number self.refusal }
     {
-        self.refusal.map_or(0, Refusal::number)
+        self.refusal.map_or(0, u32::from)
     }
 }

@@ -23,14 +23,16 @@ pub enum Refusal {
     NodeIsUp = 14,
 }
 
-impl Refusal {
-    // The number that a refusal is written as.
-    pub fn number(self) -> u32
-        ensures { result ≡ number_of self }
-    {
-        self as u32
-    }
+impl From<Refusal> for u32 {
+    ghost from_gives = { λ refusal number. number ≡ number_of refusal };
 
+    // The number that a refusal is written as.
+    fn from(refusal: Refusal) -> u32 {
+        refusal as u32
+    }
+}
+
+impl Refusal {
     // The refusal, unless its question is answered yes.
     pub fn unless(self, yes: bool) -> Result<(), Refusal>
         ensures { MatchResult result (λ _. yes ≡ true) (λ refusal. (yes ≡ false) × (refusal ≡ self)) }

@@ -1,6 +1,6 @@
 // What the steps but for fresh and deliver come to: the questions in their order, then the change of one part. Of the first question the
 // answer is handed in: formed says whether the board is well formed.
-ghost use Rattle.std.specs.Prelude.{◌≡◌, None};
+ghost use Rattle.std.specs.Prelude.{◌≡◌, None, cond};
 ghost use Rattle.decisions.specs.Steps.{accept, begins, ends, falls, rises};
 
 use crate::consoles::{ask, rest};
@@ -34,25 +34,32 @@ pub fn end(formed: bool, setup: Setup, c: ConsoleId, x: Console) -> Decision
 }
 
 // Node k, which is y, goes down.
-#[tactic(auto, unfolding(crate::specs::Steps::falls, crate::specs::Questions::guarded))]
 pub fn fall(formed: bool, setup: Setup, k: NodeId, y: Node) -> Decision
     ensures { result ≡ falls formed setup k.0 y }
 {
-    Refusal::NotWellFormed.unless(formed)?;
-    Refusal::NoSuchNode.unless(k.0 < setup.n)?;
-    Refusal::NodeIsDown.unless(y.up)?;
-    done(Part::NodeTo(set_up(y, false)), Sent::Keep)
+    switch(formed, setup, k, y, false)
 }
 
 // Node k, which is y, comes back.
-#[tactic(auto, unfolding(crate::specs::Steps::rises, crate::specs::Questions::guarded))]
 pub fn rise(formed: bool, setup: Setup, k: NodeId, y: Node) -> Decision
     ensures { result ≡ rises formed setup k.0 y }
 {
+    switch(formed, setup, k, y, true)
+}
+
+// Node k, which is y, comes back or goes down.
+#[tactic(auto, unfolding(crate::specs::Steps::falls, crate::specs::Steps::rises, crate::specs::Questions::guarded))]
+fn switch(formed: bool, setup: Setup, k: NodeId, y: Node, up: bool) -> Decision
+    ensures { result ≡ cond up (rises formed setup k.0 y) (falls formed setup k.0 y) }
+{
     Refusal::NotWellFormed.unless(formed)?;
     Refusal::NoSuchNode.unless(k.0 < setup.n)?;
-    Refusal::NodeIsUp.unless(!y.up)?;
-    done(Part::NodeTo(set_up(y, true)), Sent::Keep)
+    if up {
+        Refusal::NodeIsUp.unless(!y.up)?;
+    } else {
+        Refusal::NodeIsDown.unless(y.up)?;
+    }
+    done(Part::NodeTo(set_up(y, up)), Sent::Keep)
 }
 
 // The same of a step that takes no reply in, with outcome done.

@@ -1,19 +1,17 @@
 -- Laws of lists of steps.
 use Prim.Native.Nat.{ℕ, zero, suc, ◌+◌, ◌*◌, ◌/◌, ◌%◌, ◌≤◌, ◌<◌}
-use mathlib.Core.Bool.{Bool, true, false, cond, not}
+use mathlib.Core.Bool.{Bool, true, false, cond, ◌||◌}
 use mathlib.Core.List.{List}
 use mathlib.Core.Path.{◌≡◌, refl, sym, ap, ◌∙◌}
 use native.Mathlib.Numerals.{add-one}
 use native.Mathlib.Omega.{arith}
-use borrow.Author.Tests.{leb-true, leb-false, le-leb, ne_eqb, eq-eqb, not-false}
+use borrow.Author.Tests.{leb-true, leb-false, le-leb, ne_eqb, eq-eqb}
 use lib.Dec.{eqb, leb}
 use lib.ListN.{length}
 use lib.Seq.{length-sets}
 use Rattle.parts.specs.Outcomes.{accepted}
 use Rattle.board.specs.declared.Answer.{Answer}
 use Rattle.board.specs.declared.Board.{Board}
-use Rattle.board.specs.WellFormed.{well_formed}
-use Rattle.verbs.proofs.VerbsLaws.{verb_keeps_well_formed}
 use Rattle.layout.specs.Layout.{board_words, encoded}
 use Rattle.hatukeno.specs.declared.Midway.{Midway}
 use Rattle.hatukeno.specs.Calls.{answer_words, answer_fields, put_answer}
@@ -62,30 +60,18 @@ module _ (w q s : ℕ) where
 
 -- ---- one step more
 
-pub go_on_done : (x : Midway) (a : Answer) → accepted a.outcome ≡ true → record { board = a.board; moved = true } ≡ go_on x a
+-- the board after a step, and whether one was accepted so far
+pub went_on : (x : Midway) (a : Answer) (b : Board) (m : Bool) → b ≡ cond (accepted a.outcome) a.board x.board → m ≡ (x.moved || accepted a.outcome)
+    → ◌≡◌ {A = Midway} (record { board = b; moved = m }) (go_on x a)
 unfolding go_on
-go_on_done x a e = rw e
-
-pub go_on_refused : (x : Midway) (a : Answer) → accepted a.outcome ≡ false → x ≡ go_on x a
-unfolding go_on
-go_on_refused x a e = rw e
-
--- a well-formed board stays so
-go_on_formed : (x : Midway) (a : Answer) → well_formed x.board ≡ true → well_formed a.board ≡ true → well_formed (go_on x a).board ≡ true
-unfolding go_on
-go_on_formed x a h i = go (accepted a.outcome)
+went_on x a b m e f = go (accepted a.outcome) x.moved refl e f
   where
-    go : (y : Bool) → well_formed (cond y (record { board = a.board; moved = true }) x).board ≡ true
-    go true = i
-    go false = h
-
--- so what was known of the board is still so after a step, if it was well formed
-pub still_formed : (formed : Bool) (q : List ℕ) (k : ℕ) (x y : Midway) → formed ≡ well_formed x.board → not formed ≡ false → y ≡ go_on x (step_at q k x.board) → formed ≡ well_formed y.board
-unfolding step_at
-still_formed formed q k x y h n e =
-    let yes : formed ≡ true = not-false formed n in
-    let was : well_formed x.board ≡ true = sym h ∙ yes in
-    yes ∙ sym (ap (λ (z : Midway). well_formed z.board) e ∙ go_on_formed x _ was (verb_keeps_well_formed _ _ _ x.board was))
+    go : (y z : Bool) → z ≡ x.moved → b ≡ cond y a.board x.board → m ≡ (z || y)
+        → ◌≡◌ {A = Midway} (record { board = b; moved = m }) (cond y (record { board = a.board; moved = true }) x)
+    go true true g e f = rw (e, f)
+    go true false g e f = rw (e, f)
+    go false true g e f = rw (e, f, g)
+    go false false g e f = rw (e, f, g)
 
 pub midway_more : (q : List ℕ) (b : Board) (k : ℕ) → go_on (midway q b k) (step_at q k (midway q b k).board) ≡ midway q b (k + 1)
 unfolding midway

@@ -8,11 +8,11 @@ ghost use Rattle.hatukeno.specs.Lists.{step_words, step_at, go_on, midway, answe
 
 use crate::Midway;
 use crate::calls::{ANSWER_WORDS, put_answer};
-use board::{Answer, Board};
+use board::Board;
 use layout::BOARD_WORDS;
 use layout::reading::decode;
 use layout::writing::encode;
-use verbs::step_known;
+use verbs::Checked;
 
 // The words of a step in a list.
 const STEP_WORDS: usize = 3;
@@ -34,20 +34,6 @@ fn list_short_by(w: usize, q: usize, s: usize) -> u32
     0
 }
 
-// A refused step leaves the board as it was.
-#[tactic(auto, unfolding(crate::specs::Lists::go_on))]
-fn go_on(x: Midway, a: Answer) -> Midway
-    ensures { result ≡ go_on x a }
-{
-    if !a.outcome.is_accepted() {
-        return x;
-    }
-    Midway {
-        board: a.board,
-        moved: true,
-    }
-}
-
 // Writes the last board back, unless every step was refused. The caller has seen that the words reach for a board.
 #[tactic(auto, unfolding(crate::specs::Lists::kept_after))]
 fn keep_after(w: &mut [u32], x: Midway)
@@ -59,46 +45,23 @@ fn keep_after(w: &mut [u32], x: Midway)
     }
 }
 
-// The step at place i of the list, put to the board. The caller has seen that the list reaches so far, and knows whether the board is well
-// formed.
-#[tactic(auto, unfolding(crate::specs::Lists::step_at))]
-fn step_at(q: &[u32], i: usize, b: Board, formed: bool) -> Answer
-    requires reaches { i * step_words + step_words ≤ length q.now }
-    requires known { formed ≡ well_formed b }
-    ensures { result ≡ step_at q.now i b }
-{
-    step_known(
-        b,
-        formed,
-        q[i * STEP_WORDS],
-        q[i * STEP_WORDS + 1],
-        q[i * STEP_WORDS + 2],
-    )
-}
-
-// Puts the steps to the board b, with their answers into s. The caller has seen that s reaches for them. Question 1 is asked once: a
-// well-formed board stays so. While it is not, question 1 is asked after each step, since a fresh may have made another board.
+// Puts the steps to the board b, with their answers into s. The caller has seen that s reaches for them.
 fn run_steps(q: &[u32], s: &mut [u32], b: Board) -> Midway
     requires { steps_in (length q.now) * answer_words ≤ length s.old }
     ensures { (result ≡ midway q.now b (steps_in (length q.now))) × (s.new ≡ answers q.now b s.old (steps_in (length q.now))) }
 {
-    let count = q.len() / STEP_WORDS;
-    let mut x = Midway {
-        board: b,
-        moved: false,
-    };
-    let mut formed = b.is_well_formed();
-    let mut i: usize = 0;
-    while i < count {
-        let a = step_at(q, i, x.board, formed);
-        put_answer(s, i * ANSWER_WORDS, a);
-        x = go_on(x, a);
-        i += 1;
-        if !formed {
-            formed = x.board.is_well_formed();
-        }
+    let mut checked = Checked::new(b);
+    let mut moved = false;
+    for i in 0..q.len() / STEP_WORDS {
+        let at = i * STEP_WORDS;
+        let answer = checked.put(q[at], q[at + 1], q[at + 2]);
+        put_answer(s, i * ANSWER_WORDS, answer);
+        moved |= answer.outcome.is_accepted();
     }
-    x
+    Midway {
+        board: checked.board,
+        moved,
+    }
 }
 
 // Puts the list to the board in w, with the answers into s and the last board back into w. The caller has seen to the

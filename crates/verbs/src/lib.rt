@@ -1,7 +1,8 @@
 // The verbs: the steps by their numbers, as programs and callers of a list name them.
 #![tactic(auto)]
 
-ghost use Rattle.std.specs.Prelude.{◌≡◌};
+ghost use Rattle.std.specs.Prelude.{◌≡◌, cond};
+ghost use Rattle.parts.specs.Outcomes.{accepted};
 ghost use Rattle.board.specs.WellFormed.{well_formed};
 ghost use Rattle.verbs.specs.Verbs.{step_of};
 
@@ -30,5 +31,41 @@ pub fn step_known(b: Board, formed: bool, verb: u32, x: u32, y: u32) -> Answer
         5 => b.console_down_known(formed, ConsoleId(x)),
         6 => b.node_up_known(formed, NodeId(x)),
         7..=4294967295 => Answer::refused(Refusal::NoSuchVerb, b),
+    }
+}
+
+// A board and the answer to question 1, so that it is not asked at each of many steps.
+#[derive(Clone, Copy)]
+pub struct Checked {
+    pub board: Board,
+    pub formed: bool,
+    ghost known: { formed ≡ well_formed board },
+}
+
+impl Checked {
+    // Asks question 1 of the board.
+    pub fn new(board: Board) -> Checked
+        ensures { result.board ≡ board }
+    {
+        Checked {
+            board,
+            formed: board.is_well_formed(),
+        }
+    }
+
+    // Puts the step with this number to the board, which is the answer's from then on, unless it is refused. A
+    // well-formed board stays so; of another question 1 is asked again, since a fresh may have made it.
+    pub fn put(&mut self, verb: u32, x: u32, y: u32) -> Answer
+        ensures answer { result ≡ step_of verb x y self.old.board }
+        ensures board { self.new.board ≡ cond (accepted result.outcome) result.board self.old.board }
+    {
+        let answer = step_known(self.board, self.formed, verb, x, y);
+        if answer.outcome.is_accepted() {
+            *self = Checked {
+                board: answer.board,
+                formed: self.formed || answer.board.is_well_formed(),
+            };
+        }
+        answer
     }
 }
