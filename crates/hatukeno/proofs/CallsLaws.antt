@@ -6,10 +6,12 @@ use mathlib.Core.Path.{◌≡◌, refl, sym, ◌∙◌}
 use native.Mathlib.Omega.{arith}
 use borrow.Author.Tests.{leb-true, leb-false, le-leb, ne_eqb, eq-eqb}
 use lib.Dec.{eqb, leb}
-use Rattle.parts.specs.Outcomes.{accepted}
 use Rattle.board.specs.declared.Answer.{Answer}
-use Rattle.layout.specs.Layout.{board_words, encoded}
-use Rattle.hatukeno.specs.Calls.{answer_words, put_answer, kept, short_by, code, Called}
+use Rattle.layout.specs.Layout.{board_words}
+use Rattle.hatukeno.specs.Calls.{answer_words, put_answer, kept, returned_by, short_by, code, Called}
+use Rattle.std.specs.Prelude.{Err}
+use Rattle.hatukeno.specs.declared.calls.Short.{Short}
+use Rattle.hatukeno.specs.declared.calls.Short.TheVariants.{Board, Answers, Steps}
 
 -- ---- lengths
 
@@ -47,15 +49,11 @@ long_answer w s e = go (leb answer_words s) refl e
     go true f e = leb-true answer_words s f
     go false f e = absurd (omega (arith, short_answer w s (long_board w s e) (leb-false answer_words s f), e))
 
--- ---- writing back
-
-pub kept_done : (w : List ℕ) (a : Answer) → accepted a.outcome ≡ true → encoded w a.board ≡ kept w a
-unfolding kept
-kept_done w a e = rw e
-
-pub kept_refused : (w : List ℕ) (a : Answer) → accepted a.outcome ≡ false → w ≡ kept w a
-unfolding kept
-kept_refused w a e = rw e
+-- what is short has a number
+pub short_number : (x : Short) → returned_by (Err x) ≡ 0 → ⊥
+short_number Board e = omega (arith, e)
+short_number Answers e = omega (arith, e)
+short_number Steps e = omega (arith, e)
 
 -- ---- calls
 

@@ -2,7 +2,7 @@
 use Prim.Native.Nat.{ℕ, zero, suc, ◌+◌, ◌*◌, ◌/◌, ◌%◌, ◌≤◌, ◌<◌}
 use mathlib.Core.Bool.{Bool, true, false, cond, ◌||◌}
 use mathlib.Core.List.{List}
-use mathlib.Core.Path.{◌≡◌, refl, sym, ap, ◌∙◌}
+use mathlib.Core.Path.{◌≡◌, refl, sym, ◌∙◌}
 use native.Mathlib.Numerals.{add-one}
 use native.Mathlib.Omega.{arith}
 use borrow.Author.Tests.{leb-true, leb-false, le-leb, ne_eqb, eq-eqb}
@@ -12,7 +12,7 @@ use lib.Seq.{length-sets}
 use Rattle.parts.specs.Outcomes.{accepted}
 use Rattle.board.specs.declared.Answer.{Answer}
 use Rattle.board.specs.declared.Board.{Board}
-use Rattle.layout.specs.Layout.{board_words, encoded}
+use Rattle.layout.specs.Layout.{board_words}
 use Rattle.hatukeno.specs.declared.Midway.{Midway}
 use Rattle.hatukeno.specs.Calls.{answer_words, answer_fields, put_answer}
 use Rattle.hatukeno.specs.Lists.{step_words, step_at, go_on, midway, answers, kept_after, steps_in, last_of, answers_of, list_short_by, list_code, Ran}
@@ -89,16 +89,6 @@ pub answers_long : (q : List ℕ) (b : Board) (s : List ℕ) (k : ℕ) → lengt
 unfolding answers
 answers_long q b s zero = refl
 answers_long q b s (suc k) = put_answer_long (answers q b s k) (k * answer_words) (step_at q k (midway q b k).board) ∙ answers_long q b s k
-
--- ---- writing back
-
-pub kept_after_moved : (w : List ℕ) (x : Midway) → x.moved ≡ true → encoded w x.board ≡ kept_after w x
-unfolding kept_after
-kept_after_moved w x e = ap (λ (t : Bool). cond t (encoded w x.board) w) (sym e)
-
-pub kept_after_still : (w : List ℕ) (x : Midway) → x.moved ≡ false → w ≡ kept_after w x
-unfolding kept_after
-kept_after_still w x e = ap (λ (t : Bool). cond t (encoded w x.board) w) (sym e)
 
 -- ---- calls
 

@@ -1,10 +1,12 @@
 -- Steps on a board that stands in lent words: one step a call (Called). The answer goes into six words lent beside it.
-use Rattle.std.specs.Prelude.{ℕ, cond, List, [], ◌∷◌, ◌≡◌, eqb, leb, length}
+use Rattle.std.specs.Prelude.{ℕ, cond, List, [], ◌∷◌, ◌≡◌, eqb, leb, length, Result, Ok, Err}
 use Rattle.std.proofs.lemmas.List.Edits.{sets}
 use Rattle.parts.specs.Outcomes.{accepted, outcome_number, outcome_tag, outcome_value, compared_number}
 use Rattle.decisions.specs.Refusals.{refusal_number}
 use Rattle.board.specs.declared.Answer.{Answer}
 use Rattle.layout.specs.Layout.{board_words, encoded}
+use Rattle.hatukeno.specs.declared.calls.Short.{Short}
+use Rattle.hatukeno.specs.declared.calls.Short.TheVariants.{Board, Answers, Steps}
 
 -- the words of an answer
 abbrev pub answer_words : ℕ
@@ -25,6 +27,13 @@ kept w a = cond (accepted a.outcome) (encoded w a.board) w
 -- by the lengths, 0: the step was put to the board; 1: there are too few words for a board; 2: too few for an answer
 unfoldable pub short_by : ℕ → ℕ → ℕ
 short_by w s = cond (leb board_words w) (cond (leb answer_words s) 0 2) 1
+
+-- what a call returns of what is lent to it: why it is short, or that it is not
+abbrev pub returned_by : Result (Unit {0}) Short → ℕ
+returned_by (Ok u) = 0
+returned_by (Err Board) = 1
+returned_by (Err Answers) = 2
+returned_by (Err Steps) = 3
 
 abbrev pub code : List ℕ → List ℕ → ℕ
 code w s = short_by (length w) (length s)

@@ -1,12 +1,12 @@
 // The calls: each puts one step to the board in the lent words w, and writes the answer into the lent words s and the
 // next board back into w (Called).
-ghost use Rattle.std.specs.Prelude.{◌≡◌, ◌+◌, ◌≤◌, length};
+ghost use Rattle.std.specs.Prelude.{◌≡◌, ◌+◌, ◌≤◌, cond, length, Err};
 ghost use Rattle.parts.specs.declared.Release.TheVariants.{One, Two};
 ghost use Rattle.board.specs.Steps.{setup_of, fresh, begin_read, begin_write, node_down, console_down, node_up};
 ghost use Rattle.board.specs.Deliver.{deliver};
-ghost use Rattle.layout.specs.Layout.{board_words};
+ghost use Rattle.layout.specs.Layout.{board_words, encoded};
 ghost use Rattle.layout.specs.Standing.{decoded};
-ghost use Rattle.hatukeno.specs.Calls.{answer_words, put_answer, kept, short_by, Called};
+ghost use Rattle.hatukeno.specs.Calls.{answer_words, put_answer, returned_by, short_by, Called};
 
 use board::{Answer, Board};
 use layout::BOARD_WORDS;
@@ -36,42 +36,59 @@ pub(crate) fn put_answer(s: &mut [u32], p: usize, a: Answer)
     put_words(s, p, &fields);
 }
 
-// Writes the next board back, unless the step was refused. The caller has seen that the words reach for a board.
-#[tactic(auto, unfolding(crate::specs::Calls::kept))]
-fn keep(w: &mut [u32], a: Answer)
+// Writes the next board back, if a step has made one. The caller has seen that the words reach for a board.
+pub(crate) fn keep(w: &mut [u32], moved: bool, next: Board)
     requires { board_words ≤ length w.old }
-    ensures { w.new ≡ kept w.old a }
+    ensures { w.new ≡ cond moved (encoded w.old next) w.old }
 {
-    if a.outcome.is_accepted() {
-        encode(w, a.board);
+    if moved {
+        encode(w, next);
     }
 }
 
-// What a call returns, by the lengths of what is lent to it.
+// Why a call does nothing: there are too few words for a board, or for the answers, or those of a list are not three for
+// each step. The numbers are what the call returns.
+#[derive(Clone, Copy, Debug, PartialEq, Eq)]
+pub(crate) enum Short {
+    Board = 1,
+    Answers = 2,
+    Steps = 3,
+}
+
+impl From<Short> for u32 {
+    ghost from_gives = { λ short number. number ≡ returned_by (Err short) };
+
+    fn from(short: Short) -> u32 {
+        short as u32
+    }
+}
+
+// Whether what is lent to a call is long enough, by its lengths.
 #[tactic(auto, unfolding(crate::specs::Calls::short_by))]
-fn short_by(w: usize, s: usize) -> u32
-    ensures { result ≡ short_by w s }
+fn fits(w: usize, s: usize) -> Result<(), Short>
+    ensures { returned_by result ≡ short_by w s }
 {
     if w < BOARD_WORDS {
-        return 1;
+        return Err(Short::Board);
     }
     if s < ANSWER_WORDS {
-        return 2;
+        return Err(Short::Answers);
     }
-    0
+    Ok(())
 }
 
 // Writes the answer a of a step, and the next board unless the step was refused; nothing if memory is short.
 fn respond(w: &mut [u32], s: &mut [u32], a: Answer) -> u32
     ensures { Called a w.old s.old result w.new s.new }
 {
-    let short = short_by(w.len(), s.len());
-    if short != 0 {
-        return short;
+    match fits(w.len(), s.len()) {
+        Err(short) => u32::from(short),
+        Ok(()) => {
+            put_answer(s, 0, a);
+            keep(w, a.outcome.is_accepted(), a.board);
+            0
+        }
     }
-    put_answer(s, 0, a);
-    keep(w, a);
-    0
 }
 
 // The fresh board of n nodes and m consoles, under release 1. Each release has a call of its own, so that no caller can
