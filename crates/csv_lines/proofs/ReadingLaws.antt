@@ -5,11 +5,16 @@ use mathlib.Core.Path.{◌≡◌, refl, sym, ap, ◌∙◌}
 use mathlib.Core.Bool.{Bool, true, false, cond, ◌&&◌, and-false}
 use mathlib.Core.List.{List, [], ◌∷◌}
 use Prim.Native.Nat.{ℕ, zero, suc, ◌+◌, ◌-◌, ◌*◌, ◌^◌, ◌≤◌, ◌<◌}
-use native.Mathlib.Numerals.{add-one}
+use native.Mathlib.Numerals.{add-one, one-add}
 use native.Mathlib.Omega.{arith}
 use lib.Dec.{leb, ltb, eqb}
 use lib.ListN.{length, get_or, take, drop, drop_of_length-le, length-drop}
 use lib.Seq.{drop-cons, take_all, take-nil, take-take, drop-drop, length-take-le}
+use Rattle.std.specs.Prelude.{Option, Some, None, MatchOption}
+use Rattle.std.proofs.lemmas.Grind.{common_steps}
+use Rattle.std.proofs.lemmas.List.Sums.{prefix_len-le-length}
+use Rattle.std.specs.List.{position_or_len, position}
+use Rattle.std.proofs.lemmas.List.Recursion.{is_position_or_len}
 use borrow.Author.Tests.{eq-eqb, ne_eqb, le-leb, lt-leb, lt-ltb, le-ltb, leb-true}
 use Rattle.csv_lines.specs.declared.Num.{Num}
 use Rattle.csv_lines.specs.declared.Num.TheVariants.{Bad, Is}
@@ -17,6 +22,10 @@ use Rattle.csv_lines.specs.declared.Line.TheVariants.{TooLong, NotThree}
 use Rattle.csv_lines.specs.Reading.{comma_byte, quote_byte, zero_byte, nine_byte, max_line, index_of, count_of, after_comma, from_field, raw_field, quoted, unquoted, quote_bytes, field_of, field_start, all_digits, value_from, num_of, three_of, line_of}
 
 -- ---- the first comma
+
+pub index_is : (b : ℕ) (s : List ℕ) → index_of b s ≡ position_or_len (λ x. eqb x b) s
+unfolding index_of
+index_is b s = is_position_or_len (index_of b) (λ x. eqb x b) refl (λ _ t. rw (one-add (index_of b t))) s
 
 module _ (s : List ℕ) (b i : ℕ) (h : i < length s) where
   pub index_hit : get_or s i 0 ≡ b → index_of b (drop i s) ≡ 0
@@ -30,6 +39,12 @@ module _ (s : List ℕ) (b i : ℕ) (h : i < length s) where
 pub index_end : (s : List ℕ) (b i : ℕ) → length s ≤ i → index_of b (drop i s) ≡ 0
 unfolding index_of
 index_end s b i h = rw (drop_of_length-le s h)
+
+pub first_some : (b : ℕ) (s : List ℕ) (i : ℕ) → Some i ≡ position (λ x. eqb x b) s → (i ≡ index_of b s) × (i < length s)
+first_some b s i e = grind (arith, common_steps, index_is)
+
+pub first_none : (b : ℕ) (s : List ℕ) → None ≡ position (λ x. eqb x b) s → index_of b s ≡ length s
+first_none b s e = grind (arith, common_steps, index_is, prefix_len-le-length)
 
 -- ---- what stands from a field on
 
@@ -64,7 +79,63 @@ take_rest s a = take_all (length s - a) (drop a s) (simp length-drop (omega arit
 pub length_rest : (s : List ℕ) (a : ℕ) → length (take (length s - a) (drop a s)) ≡ length s - a
 length_rest s a = ap length (take_rest s a) ∙ length-drop a s
 
+-- ---- one comma further on
+
+pub from_none : (s : List ℕ) (m : ℕ) → m ≡ 0 → from_field s m ≡ s
+unfolding from_field
+from_none s m e = rw e refl
+
+module _ (s : List ℕ) (a : ℕ) where
+  pub turn_room : (i : ℕ) → Some i ≡ position (λ x. eqb x comma_byte) (take (length s - a) (drop a s)) → i + 1 ≤ length s - a
+  turn_room i e = omega (arith, (first_some comma_byte (take (length s - a) (drop a s)) i e).1, length_rest s a)
+
+  pub from_turn : (i m n : ℕ) → Some i ≡ position (λ x. eqb x comma_byte) (take (length s - a) (drop a s)) → m ≡ n + 1 → from_field (drop a s) m ≡ from_field (drop (a + (i + 1)) s) n
+  from_turn i m n e f =
+      let found = (first_some comma_byte (drop a s) i (rw take_rest at e)).0 in
+      let next : a + suc (index_of comma_byte (drop a s)) ≡ a + (i + 1) = omega (arith, found) in
+      let less : m - 1 ≡ n = omega (arith, f) in
+      from_step (drop a s) m (omega (arith, f)) ∙ rw less (ap (λ (t : List ℕ). from_field t n) (drop-drop (suc (index_of comma_byte (drop a s))) a s ∙ ap (λ (j : ℕ). drop j s) next))
+
+  pub from_last : (m : ℕ) → None ≡ position (λ x. eqb x comma_byte) (take (length s - a) (drop a s)) → 0 < m → from_field (drop a s) m ≡ []
+  from_last m e some =
+      let last = first_none comma_byte (drop a s) (rw take_rest at e) in
+      let over : length (drop a s) ≤ suc (index_of comma_byte (drop a s)) = omega (arith, last) in
+      from_step (drop a s) m some ∙ ap (λ (t : List ℕ). from_field t (m - 1)) (drop_of_length-le (drop a s) over) ∙ from_nothing (m - 1)
+
+pub one_field : (s : List ℕ) (i : ℕ) → Some i ≡ position (λ x. eqb x comma_byte) s → take i s ≡ take (index_of comma_byte s) s
+one_field s i e = ap (λ (n : ℕ). take n s) (first_some comma_byte s i e).0
+
+pub last_field : (s : List ℕ) → None ≡ position (λ x. eqb x comma_byte) s → take (index_of comma_byte s) s ≡ s
+last_field s e = take_all (index_of comma_byte s) s (omega (arith, first_none comma_byte s e))
+
 -- ---- quotes
+
+module _ (s : List ℕ) where
+  pub quoted_none : length s < 2 → quoted s ≡ false
+  unfolding quoted
+  quoted_none h = rw (lt-leb 2 (length s) h)
+
+  pub quoted_not_first : (get_or s 0 0 ≡ quote_byte → ⊥) → quoted s ≡ false
+  unfolding quoted
+  quoted_not_first h = rw (ne_eqb (get_or s 0 0) quote_byte h, and-false)
+
+  pub quoted_not_last : (get_or s (length s - 1) 0 ≡ quote_byte → ⊥) → quoted s ≡ false
+  unfolding quoted
+  quoted_not_last h = rw (ne_eqb (get_or s (length s - 1) 0) quote_byte h, and-false)
+
+  pub quoted_both : 2 ≤ length s → get_or s 0 0 ≡ quote_byte → get_or s (length s - 1) 0 ≡ quote_byte → quoted s ≡ true
+  unfolding quoted
+  quoted_both h e f = rw (le-leb 2 (length s) h, e, f)
+
+  pub part_bare : quoted s ≡ false → (unquoted s ≡ s) × (quote_bytes s ≡ 0)
+  unfolding unquoted
+  part_bare e = rw e (refl, refl)
+
+  pub part_inner : quoted s ≡ true → (unquoted s ≡ take (length s - 1 - 1) (drop 1 s)) × (quote_bytes s ≡ 1)
+  unfolding unquoted
+  part_inner e =
+      let two : length s - 1 - 1 ≡ length s - 2 = omega arith in
+      rw (e, two) (refl, refl)
 
 pub quoted_short : (s : List ℕ) → length s < 2 → quoted s ≡ false
 unfolding quoted
@@ -206,7 +277,13 @@ line_three s h g = rw (le-ltb max_line (length s) h, g)
 
 -- ---- what each function goes by
 
+pub ruleset from_field_laws = (turn_room, from_none, from_turn, from_last, take_rest)
+
+pub ruleset before_comma_laws = (one_field, last_field)
+
 pub ruleset first_comma_laws = (index_hit, index_miss, index_end)
+
+pub ruleset unquoted_laws = (quoted_none, quoted_not_first, quoted_not_last, quoted_both, part_bare, part_inner)
 
 -- each test of the code is one of the definition's
 pub ruleset is_quoted_laws = (quoted_short, quoted_bare, quoted_end)
