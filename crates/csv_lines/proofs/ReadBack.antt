@@ -6,7 +6,7 @@ use Prim.Native.Nat.{ℕ, zero, suc, ◌+◌, ◌-◌, ◌*◌, ◌/◌, ◌^◌
 use native.Mathlib.Omega.{arith}
 use lib.Dec.{ltb}
 use borrow.Author.Tests.{lt-ltb, le-leb, ltb-true, ltb-false}
-use Rattle.csv_lines.specs.declared.Num.TheVariants.{Is}
+use Rattle.std.specs.Prelude.{Some}
 use Rattle.csv_lines.specs.Reading.{zero_byte, nine_byte, is_digit, all_digits, value_from, num_of}
 use Rattle.csv_lines.proofs.ReadingLaws.{num_some}
 use Rattle.csv_lines.specs.Writing.{digit_of, digits, decimal}
@@ -62,7 +62,7 @@ pub decimal_value : (n : ℕ) → n < 2 ^ 64 → value_from 0 (decimal n) ≡ n
 unfolding decimal
 decimal_value n h = (back 19 n (omega arith)).1
 
-pub decimal_read : (n : ℕ) → n < 2 ^ 32 → num_of (decimal n) ≡ Is n
+pub decimal_read : (n : ℕ) → n < 2 ^ 32 → num_of (decimal n) ≡ Some n
 decimal_read n h =
     let g : n < 2 ^ 64 = omega arith in
     num_some (decimal n) (decimal_some n) ∙ rw (decimal_digits n g, decimal_value n g, lt-ltb n (2 ^ 32) h)
