@@ -1,5 +1,5 @@
 -- Laws of the lines of an input.
-use Prim.Native.Nat.{ℕ, suc, ◌+◌, ◌-◌, ◌≤◌, min}
+use Prim.Native.Nat.{ℕ, suc, ◌+◌, ◌-◌, ◌≤◌, ◌<◌, min}
 use mathlib.Core.Bool.{Bool, true, false}
 use mathlib.Core.List.{List, [], ◌∷◌, ◌++◌}
 use mathlib.Core.Path.{◌≡◌, refl, sym, ap, ◌∙◌}
@@ -9,8 +9,21 @@ use borrow.Author.Tests.{ne_eqb, leb-true, leb-false}
 use lib.Dec.{leb}
 use lib.ListN.{length, take, get_or, length-append}
 use lib.Seq.{take_all, take-length, take-suc, take-append-add, length-take-le}
+use Rattle.std.proofs.lemmas.List.{get_or-take}
 use Rattle.csv_lines.specs.Reading.{cr_byte}
 use Rattle.csv_lines.specs.Splitting.{chop}
+
+-- ---- no more than there are
+
+pub take_least : (l : List ℕ) (n k : ℕ) → k ≡ min n (length l) → take k l ≡ take n l
+take_least l n k e = go (leb n (length l)) refl
+  where
+    go : (t : Bool) → leb n (length l) ≡ t → take k l ≡ take n l
+    go true f = ap (λ (i : ℕ). take i l) (e ∙ min-eq_left (leb-true n (length l) f))
+    go false f =
+        let all : length l ≤ k = omega (arith, e, leb-false n (length l) f) in
+        let more : length l ≤ n = omega (arith, leb-false n (length l) f) in
+        take_all k l all ∙ sym (take_all n l more)
 
 -- ---- the CR of a CR LF
 
@@ -26,17 +39,31 @@ chop_other [] x h = rw (ne_eqb x cr_byte h)
 chop_other (y ∷ []) x h = rw (ne_eqb x cr_byte h)
 chop_other (y ∷ z ∷ s) x h = ap (λ (t : List ℕ). y ∷ t) (chop_other (z ∷ s) x h)
 
-module _ (l : List ℕ) (h : ℕ) (pos : h ≡ 0 → ⊥) (le : h ≤ length l) where
-  last_held : take h l ≡ take (h - 1) l ++ (get_or l (h - 1) 0 ∷ [])
-  last_held =
-      let e : suc (h - 1) ≡ h = omega arith in
-      ap (λ (n : ℕ). take n l) (sym e) ∙ take-suc l (h - 1) 0 (omega arith)
+-- the first n bytes of l, of which there are k, and their last
+module _ (l : List ℕ) (n k : ℕ) (e : k ≡ min n (length l)) where
+  module _ (some : 1 ≤ length (take k l)) where
+    held_length : length (take k l) ≡ k
+    held_length = length-take-le k l (omega (arith, e))
 
-  pub chop_held : get_or l (h - 1) 0 ≡ cr_byte → take (h - 1) l ≡ chop (take h l)
-  chop_held e = sym (ap chop (last_held ∙ rw e) ∙ chop_cr (take (h - 1) l))
+    last_held : take k l ≡ take (k - 1) l ++ (get_or (take k l) (length (take k l) - 1) 0 ∷ [])
+    last_held =
+        let one : suc (k - 1) ≡ k = omega (arith, held_length) in
+        let i : length (take k l) - 1 ≡ k - 1 = omega (arith, held_length) in
+        ap (λ (m : ℕ). take m l) (sym one)
+        ∙ take-suc l (k - 1) 0 (omega (arith, held_length, e))
+        ∙ ap (λ (x : ℕ). take (k - 1) l ++ (x ∷ [])) (sym (get_or-take k l (k - 1) 0 (omega (arith, held_length))) ∙ ap (λ (m : ℕ). get_or (take k l) m 0) (sym i))
 
-  pub chop_kept : (get_or l (h - 1) 0 ≡ cr_byte → ⊥) → take h l ≡ chop (take h l)
-  chop_kept e = sym (ap chop last_held ∙ chop_other (take (h - 1) l) (get_or l (h - 1) 0) e ∙ sym last_held)
+    pub chop_held : get_or (take k l) (length (take k l) - 1) 0 ≡ cr_byte → take (k - 1) l ≡ chop (take n l)
+    chop_held f = sym (ap chop (sym (take_least l n k e) ∙ last_held ∙ rw f) ∙ chop_cr (take (k - 1) l))
+
+    pub chop_kept : (get_or (take k l) (length (take k l) - 1) 0 ≡ cr_byte → ⊥) → take k l ≡ chop (take n l)
+    chop_kept f = last_held ∙ sym (ap chop (sym (take_least l n k e) ∙ last_held) ∙ chop_other (take (k - 1) l) _ f)
+
+  pub chop_none : length (take k l) < 1 → take k l ≡ chop (take n l)
+  unfolding chop
+  chop_none h =
+      let nothing : take k l ≡ [] = grind (arith) in
+      nothing ∙ sym (ap chop (sym (take_least l n k e) ∙ nothing))
 
 -- ---- what is held
 
@@ -54,18 +81,6 @@ module _ (l s : List ℕ) (h : ℕ) (le : h ≤ length l) where
   pub held_is : (n : ℕ) → n ≡ min (length s) (length l - h) → take h l ++ take n s ≡ take (length l) (take h l ++ s)
   held_is n e = held_cases n e (leb (length s) (length l - h)) refl
 
--- ---- no more than there are
+-- ---- what chopped goes by: the last byte that is held
 
-pub take_least : (l : List ℕ) (n k : ℕ) → k ≡ min n (length l) → take k l ≡ take n l
-take_least l n k e = go (leb n (length l)) refl
-  where
-    go : (t : Bool) → leb n (length l) ≡ t → take k l ≡ take n l
-    go true f = ap (λ (i : ℕ). take i l) (e ∙ min-eq_left (leb-true n (length l) f))
-    go false f =
-        let all : length l ≤ k = omega (arith, e, leb-false n (length l) f) in
-        let more : length l ≤ n = omega (arith, leb-false n (length l) f) in
-        take_all k l all ∙ sym (take_all n l more)
-
--- ---- what chopped goes by: the last byte that is held; what is held is the same up to the line's length (take_least)
-
-pub ruleset chopped_laws = (chop_held, chop_kept, take_least)
+pub ruleset chopped_laws = (chop_held, chop_kept, chop_none)
