@@ -4,4 +4,5 @@ pub mod Parts
 pub mod Reading
 pub mod Splitting
 pub mod Writing
+pub mod Pens
 pub mod Quoted
