@@ -5,7 +5,7 @@ use mathlib.Core.Bool.{Bool, true, false}
 use mathlib.Core.List.{List, [], ◌∷◌}
 use Prim.Native.Nat.{ℕ, zero, suc, ◌+◌, ◌-◌, ◌≤◌}
 use native.Mathlib.Omega.{arith}
-use lib.ListN.{length, take, drop, length-drop, length-take}
+use lib.ListN.{length, take, drop, length-take}
 use lib.Seq.{take-nil, take-take, drop-drop}
 use Rattle.csv_lines.specs.Reading.{comma_byte, index_of, after_comma, from_field, raw_field, quoted, field_of, field_start}
 use Rattle.csv_lines.proofs.ReadingLaws.{unquoted_yes, unquoted_no}
@@ -72,7 +72,7 @@ module _ (s : List ℕ) (k a n : ℕ) (b : a ≡ length s - length (from_field s
       let few : length text ≤ n = omega (arith, ap length text_is, length-take n (drop a s)) in
       let inner = ap (drop 1) text_is ∙ drop_take n (drop a s) ∙ ap (take (n - 1)) (drop-drop 1 a s) in
       part_at s (field_of s k) (a + 1) (field_start s k) (length text - 1 - 1) (omega (arith, b, p.1))
-          (p.0 ∙ ap (take (length text - 1 - 1)) inner ∙ take-take (length text - 1 - 1) (n - 1) (drop (a + 1) s) (omega (arith, few)))
+      (p.0 ∙ ap (take (length text - 1 - 1)) inner ∙ take-take (length text - 1 - 1) (n - 1) (drop (a + 1) s) (omega (arith, few)))
   part_cases false q =
       let p = unquoted_no (raw_field s k) q in
       part_at s (field_of s k) a (field_start s k) n (omega (arith, b, p.1)) (p.0 ∙ text_is)

@@ -1,18 +1,19 @@
 -- Laws of fields, numbers and lines.
 -- A function that goes along a text cites a law for one step more (from_turn, read_more) and one for the end.
-use mathlib.Core.Path.{◌≡◌, refl, sym, ap, ◌∙◌}
-use mathlib.Core.Bool.{Bool, true, false, cond, ◌&&◌, and-false}
+use mathlib.Core.Path.{◌≡◌, refl, ap, ◌∙◌}
+use mathlib.Core.Bool.{true, false, cond, ◌&&◌, and-false}
 use mathlib.Core.List.{List, [], ◌∷◌}
 use Prim.Native.Nat.{ℕ, zero, suc, ◌+◌, ◌-◌, ◌*◌, ◌^◌, ◌≤◌, ◌<◌}
 use native.Mathlib.Numerals.{add-one, one-add}
 use native.Mathlib.Omega.{arith}
-use lib.Dec.{leb, ltb, eqb}
+use lib.Dec.{ltb, eqb}
 use lib.ListN.{length, get_or, take, drop, drop_of_length-le, length-drop}
 use lib.Seq.{drop-cons, take_all, drop-drop}
 use borrow.Author.Tests.{ne_eqb, le-leb, lt-leb, lt-ltb, le-ltb}
-use Rattle.std.specs.Prelude.{Option, Some, None, Ok, Err}
+use Rattle.std.specs.Prelude.{Option, Some, None, Err}
 use Rattle.std.specs.List.{position_or_len, position, count_by}
 use Rattle.std.proofs.lemmas.Grind.{common_steps}
+use Rattle.std.proofs.lemmas.List.{take_rest}
 use Rattle.std.proofs.lemmas.List.Recursion.{is_position_or_len, is_sum_by}
 use Rattle.std.proofs.lemmas.List.Sums.{prefix_len-le-length}
 use Rattle.csv_lines.specs.declared.BadLine.TheVariants.{TooLong, NotThree}
@@ -45,10 +46,6 @@ from_nothing : (k : ℕ) → from_field [] k ≡ []
 unfolding from_field index_of
 from_nothing zero = refl
 from_nothing (suc k) = from_nothing k
-
--- the part from a on
-pub take_rest : (s : List ℕ) (a : ℕ) → take (length s - a) (drop a s) ≡ drop a s
-take_rest s a = take_all (length s - a) (drop a s) (simp length-drop (omega arith))
 
 -- a comma is found at place i from a on
 module _ (s : List ℕ) (a i : ℕ) (e : Some i ≡ position (λ x. eqb x comma_byte) (take (length s - a) (drop a s))) where
@@ -172,7 +169,7 @@ module _ (s : List ℕ) where
 
 -- ---- what each function goes by
 
-pub ruleset from_field_laws = (turn_room, from_all, from_turn, from_last, take_rest)
+pub ruleset from_field_laws = (take_rest, turn_room, from_all, from_turn, from_last)
 
 pub ruleset before_comma_laws = (before_some, before_none)
 

@@ -1,8 +1,7 @@
 -- Laws of numbers in decimal, of fields and of lines.
 use mathlib.Core.Path.{◌≡◌, refl, sym, ap, ◌∙◌}
 use mathlib.Core.List.{List, [], ◌∷◌, ◌++◌, append_assoc, append-nil}
-use Prim.Native.Nat.{ℕ, zero, suc, ◌+◌, ◌*◌, ◌/◌, ◌%◌, ◌^◌, ◌≤◌, ◌<◌}
-use native.Mathlib.Numerals.{add-one}
+use Prim.Native.Nat.{ℕ, ◌+◌, ◌%◌, ◌^◌, ◌≤◌, ◌<◌}
 use native.Mathlib.Omega.{arith}
 use lib.ListN.{length, get_or, take, length-append}
 use lib.Seq.{sets}
@@ -13,8 +12,8 @@ use Rattle.std.proofs.lemmas.Fmt.{AppendsLastDigit, decimal_from_appends, length
 use Rattle.csv_lines.specs.declared.writing.Pen.{Pen}
 use Rattle.csv_lines.specs.Pens.{Wrote}
 use Rattle.csv_lines.specs.Reading.{comma_byte, lf_byte}
-use Rattle.csv_lines.proofs.SetsLaws.{sets_sets, sets_part}
-use Rattle.csv_lines.specs.Writing.{number_bytes, field_bytes, digit_of, digits, decimal, joined, field_text, fields_text, ended}
+use Rattle.csv_lines.proofs.SetsLaws.{sets_sets}
+use Rattle.csv_lines.specs.Writing.{number_bytes, field_bytes, digits, decimal, joined, field_text, fields_text, ended}
 
 -- ---- the digits of a number of 64 bits, as std writes them
 
