@@ -1,6 +1,7 @@
 -- How a line is read: its fields, a field as a number, a line as three numbers (document 01, 'Lines that programs read
 -- and write', and Paper 1). A line is the list of its bytes; its end is no part of it.
-use Rattle.std.specs.Prelude.{ℕ, zero, suc, ◌+◌, ◌-◌, ◌*◌, ◌^◌, Bool, true, cond, ◌&&◌, List, [], ◌∷◌, Option, None, Some, Result, Ok, Err, leb, ltb, eqb, length, get_or, take, drop}
+use Rattle.std.specs.Prelude.{ℕ, zero, suc, ◌+◌, ◌-◌, ◌*◌, ◌^◌, Bool, true, cond, ◌&&◌, List, [], ◌∷◌, Option, None, Some, Result, Ok, Err, ◌≡◌, leb, ltb, eqb, length, get_or, take, drop}
+use Rattle.std.specs.Borrow.{Bor}
 use Rattle.csv_lines.specs.declared.BadLine.{BadLine}
 use Rattle.csv_lines.specs.declared.BadLine.TheVariants.{TooLong, NotThree}
 
@@ -75,6 +76,12 @@ field_of s k = unquoted (raw_field s k)
 -- and its place in the line: after all that stands before field k, and after its opening quote
 unfoldable pub field_start : List ℕ → ℕ → ℕ
 field_start s k = length s - length (from_field s k) + quote_bytes (raw_field s k)
+
+-- r is the part of s that begins at place i and holds these bytes: what is promised of a part of the caller's own line
+pub record IsPart (s r : Bor (List ℕ)) (bytes : List ℕ) (i : ℕ) : Type 0 where
+  pub now : r.now ≡ bytes
+  pub block : r.ref_ptr.0 ≡ s.ref_ptr.0
+  pub start : r.ref_ptr.1 ≡ s.ref_ptr.1 + i
 
 -- ---- numbers
 

@@ -1,8 +1,8 @@
 // The fields of a line, each as that part of the caller's own line, quotes left off.
-// Each function hands back a part of the bytes that it is lent, and promises where that part begins.
+// Each function hands back a part of the bytes that it is lent, and promises where that part begins; std's `split` and
+// `nth` promise the bytes of a part alone.
 ghost use Rattle.std.specs.Prelude.{◌≡◌, ◌+◌, ◌-◌, ◌==◌, length, position, take};
-ghost use Rattle.csv_lines.specs.Parts.{IsPart};
-ghost use Rattle.csv_lines.specs.Reading.{comma_byte, index_of, from_field, unquoted, quote_bytes, field_of, field_start};
+ghost use Rattle.csv_lines.specs.Reading.{comma_byte, index_of, from_field, unquoted, quote_bytes, field_of, field_start, IsPart};
 
 // The place of the first comma.
 fn first_comma(s: &[u8]) -> Option<usize>
@@ -11,7 +11,8 @@ fn first_comma(s: &[u8]) -> Option<usize>
     s.iter().position(|x| *x == b',')
 }
 
-// What stands from field k on; nothing where there is no such field.
+// What stands from field k on; nothing where there is no such field. The loop moves a place and not the part itself,
+// since an invariant does not see the address behind a reference.
 #[tactic(auto, using(crate::proofs::ReadingLaws::from_field_laws))]
 fn from_field(line: &[u8], k: usize) -> &[u8]
     ensures { IsPart line.entry result (from_field line.now k) (length line.now - length (from_field line.now k)) }

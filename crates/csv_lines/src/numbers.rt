@@ -1,4 +1,4 @@
-// A field's text as a number.
+// A field's text as a number. It is not std's `parse`, which takes a sign too.
 ghost use Rattle.std.specs.Prelude.{◌≡◌};
 ghost use Rattle.csv_lines.specs.Reading.{num_of};
 

@@ -1,4 +1,6 @@
 // The lines of an input that comes in parts: the line so far is held in lent memory until its end is there.
+// That memory and how much of it is held are no struct: the memory is lent anew with each part, and the number is the
+// caller's to keep.
 ghost use Rattle.std.specs.Prelude.{◌++◌, ◌≡◌, ◌≤◌, min, length, take};
 ghost use Rattle.csv_lines.specs.Splitting.{chop};
 
