@@ -7,6 +7,7 @@ use Prim.Native.Nat.{ℕ, zero, suc, ◌+◌, ◌-◌, ◌≤◌}
 use native.Mathlib.Omega.{arith}
 use lib.ListN.{length, take, drop, length-take}
 use lib.Seq.{take-nil, take-take, drop-drop}
+use Rattle.std.proofs.lemmas.List.{take_min}
 use Rattle.csv_lines.specs.Reading.{comma_byte, index_of, after_comma, from_field, raw_field, quoted, field_of, field_start}
 use Rattle.csv_lines.proofs.ReadingLaws.{unquoted_yes, unquoted_no}
 
@@ -41,9 +42,7 @@ from_tail s (suc k) = tail_trans s (after_comma s) (from_field (after_comma s) k
 -- ---- the field in that tail
 
 take_again : (m : ℕ) (l : List ℕ) → take (length (take m l)) l ≡ take m l
-take_again zero l = refl
-take_again (suc m) [] = refl
-take_again (suc m) (x ∷ l) = ap (λ (r : List ℕ). x ∷ r) (take_again m l)
+take_again m l = ap (λ (k : ℕ). take k l) (length-take m l) ∙ take_min m l
 
 drop_take : (n : ℕ) (l : List ℕ) → drop 1 (take n l) ≡ take (n - 1) (drop 1 l)
 drop_take zero l = refl

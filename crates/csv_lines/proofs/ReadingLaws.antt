@@ -21,14 +21,14 @@ use Rattle.csv_lines.specs.Reading.{comma_byte, quote_byte, zero_byte, max_line,
 
 -- ---- the first of a byte, as std's `position` finds it
 
-pub index_is : (b : ℕ) (s : List ℕ) → index_of b s ≡ position_or_len (λ x. eqb x b) s
+index_is : (b : ℕ) (s : List ℕ) → index_of b s ≡ position_or_len (λ x. eqb x b) s
 unfolding index_of
 index_is b s = is_position_or_len (index_of b) (λ x. eqb x b) refl (λ _ t. rw (one-add (index_of b t))) s
 
-pub index_some : (b : ℕ) (s : List ℕ) (i : ℕ) → Some i ≡ position (λ x. eqb x b) s → (i ≡ index_of b s) × (i < length s)
+index_some : (b : ℕ) (s : List ℕ) (i : ℕ) → Some i ≡ position (λ x. eqb x b) s → (i ≡ index_of b s) × (i < length s)
 index_some b s i e = grind (arith, common_steps, index_is)
 
-pub index_none : (b : ℕ) (s : List ℕ) → None ≡ position (λ x. eqb x b) s → index_of b s ≡ length s
+index_none : (b : ℕ) (s : List ℕ) → None ≡ position (λ x. eqb x b) s → index_of b s ≡ length s
 index_none b s e = grind (arith, common_steps, index_is, prefix_len-le-length)
 
 -- ---- what stands from a field on
@@ -107,7 +107,7 @@ module _ (s : List ℕ) where
 
 -- ---- how many commas, as std's `count_by` counts them
 
-pub count_is : (b : ℕ) (s : List ℕ) → count_of b s ≡ count_by (λ x. eqb x b) s
+count_is : (b : ℕ) (s : List ℕ) → count_of b s ≡ count_by (λ x. eqb x b) s
 unfolding count_of
 count_is b s = is_sum_by (count_of b) (λ x. cond (eqb x b) 1 0) refl (λ _ _. refl) s
 

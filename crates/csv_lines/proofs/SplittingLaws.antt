@@ -1,29 +1,19 @@
 -- Laws of the lines of an input.
 use Prim.Native.Nat.{ℕ, suc, ◌+◌, ◌-◌, ◌≤◌, ◌<◌, min}
-use mathlib.Core.Bool.{Bool, true, false}
 use mathlib.Core.List.{List, [], ◌∷◌, ◌++◌}
 use mathlib.Core.Path.{◌≡◌, refl, sym, ap, ◌∙◌}
-use native.Mathlib.Nat.{min-eq_left}
 use native.Mathlib.Omega.{arith}
-use borrow.Author.Tests.{ne_eqb, leb-true, leb-false}
-use lib.Dec.{leb}
-use lib.ListN.{length, take, get_or, length-append}
-use lib.Seq.{take_all, take-length, take-suc, take-append-add, length-take-le}
-use Rattle.std.proofs.lemmas.List.{get_or-take}
+use borrow.Author.Tests.{ne_eqb}
+use lib.ListN.{length, take, get_or}
+use lib.Seq.{take-suc, take-append-add, length-take-le}
+use Rattle.std.proofs.lemmas.List.{get_or-take, take_min}
 use Rattle.csv_lines.specs.Reading.{cr_byte}
 use Rattle.csv_lines.specs.Splitting.{chop}
 
 -- ---- no more than there are
 
 pub take_least : (l : List ℕ) (n k : ℕ) → k ≡ min n (length l) → take k l ≡ take n l
-take_least l n k e = go (leb n (length l)) refl
-  where
-    go : (t : Bool) → leb n (length l) ≡ t → take k l ≡ take n l
-    go true f = ap (λ (i : ℕ). take i l) (e ∙ min-eq_left (leb-true n (length l) f))
-    go false f =
-        let all : length l ≤ k = omega (arith, e, leb-false n (length l) f) in
-        let more : length l ≤ n = omega (arith, leb-false n (length l) f) in
-        take_all k l all ∙ sym (take_all n l more)
+take_least l n k e = ap (λ (i : ℕ). take i l) e ∙ take_min n l
 
 -- ---- the CR of a CR LF
 
@@ -67,19 +57,12 @@ module _ (l : List ℕ) (n k : ℕ) (e : k ≡ min n (length l)) where
 
 -- ---- what is held
 
-module _ (l s : List ℕ) (h : ℕ) (le : h ≤ length l) where
-  held_cases : (n : ℕ) → n ≡ min (length s) (length l - h) → (t : Bool) → leb (length s) (length l - h) ≡ t → take h l ++ take n s ≡ take (length l) (take h l ++ s)
-  held_cases n e true f =
-      let fits : n ≡ length s = e ∙ min-eq_left (leb-true _ _ f) in
-      let short : length (take h l ++ s) ≤ length l = omega (arith, length-append (take h l) s, length-take-le h l le, leb-true (length s) (length l - h) f) in
-      rw fits (ap (λ (t : List ℕ). take h l ++ t) (take-length s) ∙ sym (take_all (length l) (take h l ++ s) short))
-  held_cases n e false f =
-      let full : length l ≡ length (take h l) + n = omega (arith, length-take-le h l le, leb-false (length s) (length l - h) f, e) in
-      sym (ap (λ (k : ℕ). take k (take h l ++ s)) full ∙ take-append-add (take h l) s n)
-
-  -- the first bytes of what is held and of s, as far as there is room
-  pub held_is : (n : ℕ) → n ≡ min (length s) (length l - h) → take h l ++ take n s ≡ take (length l) (take h l ++ s)
-  held_is n e = held_cases n e (leb (length s) (length l - h)) refl
+-- the first h bytes of l and then as many of s as there is room for
+pub held_is : (l s : List ℕ) (h n : ℕ) → h ≤ length l → n ≡ min (length l - h) (length s) → take h l ++ take n s ≡ take (length l) (take h l ++ s)
+held_is l s h n le e =
+    let full : length l ≡ length (take h l) + (length l - h) = omega (arith, length-take-le h l le) in
+    ap (λ (t : List ℕ). take h l ++ t) (take_least s (length l - h) n e)
+    ∙ sym (ap (λ (k : ℕ). take k (take h l ++ s)) full ∙ take-append-add (take h l) s (length l - h))
 
 -- ---- what chopped goes by: the last byte that is held
 

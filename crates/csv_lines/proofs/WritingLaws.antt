@@ -79,7 +79,7 @@ joined_fields n [] = sym (append-nil (decimal n))
 joined_fields n (m ∷ ns) = ap (λ (l : List ℕ). decimal n ++ comma_byte ∷ l) (joined_fields m ns)
 
 module _ (n : ℕ) (ns : List ℕ) where
-  pub line_parts : ended (n ∷ ns) ≡ decimal n ++ (fields_text ns ++ lf_byte ∷ [])
+  line_parts : ended (n ∷ ns) ≡ decimal n ++ (fields_text ns ++ lf_byte ∷ [])
   line_parts = ap (λ (l : List ℕ). l ++ lf_byte ∷ []) (joined_fields n ns) ∙ append_assoc (decimal n) (fields_text ns) (lf_byte ∷ [])
 
 pub wrote_line : (p q r s : Pen) (n : ℕ) (ns : List ℕ) → Wrote p q (decimal n) → Wrote q r (fields_text ns) → Wrote r s (lf_byte ∷ []) → Wrote p s (ended (n ∷ ns))

@@ -23,7 +23,7 @@ pub fn hold(line: &mut [u8], held: usize, bytes: &[u8]) -> usize
     ensures { (result ≤ length line.new) × (take result line.new ≡ take (length line.old) (take held line.old ++ bytes.now)) }
 {
     let held = held.min(line.len());
-    let n = bytes.len().min(line.len() - held);
+    let n = (line.len() - held).min(bytes.len());
     line[held..held + n].copy_from_slice(&bytes[..n]);
     held + n
 }

@@ -16,6 +16,6 @@ returns c =
       search rules,
       take-put_mid _ _ line _ (held + n) (omega arith) inside
           ∙ ap (λ (t : List ℕ). take held line ++ t) put
-          ∙ held_is line bytes held inside n c.min-n.ensures
+          ∙ held_is line bytes held n inside c.min-n.ensures
           ∙ ap (λ (l : List ℕ). take (length line) (l ++ bytes)) (take_least line c.args.held held c.min-held.ensures),
     )
