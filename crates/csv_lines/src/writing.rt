@@ -15,6 +15,7 @@ struct Pen<'a> {
 }
 
 impl Pen<'_> {
+    // The bytes as they are.
     #[tactic(auto, using(crate::proofs::SetsLaws::sets_part))]
     fn put(&mut self, bytes: &[u8])
         requires { HasRoom self.old (length bytes.now) }
