@@ -1,15 +1,15 @@
 -- A field's bytes and its place agree, as they are defined: from that place on, the line holds those bytes
 -- (field_part).
 use mathlib.Core.Path.{◌≡◌, refl, sym, ap, ◌∙◌}
-use mathlib.Core.Bool.{Bool, true, false, cond}
+use mathlib.Core.Bool.{Bool, true, false}
 use mathlib.Core.List.{List, [], ◌∷◌}
 use Prim.Native.Nat.{ℕ, zero, suc, ◌+◌, ◌-◌, ◌≤◌}
 use native.Mathlib.Omega.{arith}
-use lib.Dec.{eqb}
-use lib.ListN.{length, take, drop, length-drop}
-use lib.Seq.{drop-drop}
-use Rattle.csv_lines.specs.Reading.{comma_byte, index_of, after_comma, from_field, quoted, field_of, field_start}
-use Rattle.csv_lines.proofs.ReadingLaws.{unquoted_yes, unquoted_no, cut_room, inner_part, marked_field, marked_start}
+use lib.ListN.{length, take, drop, length-take}
+use lib.Seq.{take-nil, take-take, drop-drop}
+use Rattle.std.proofs.lemmas.List.{take_min}
+use Rattle.csv_lines.specs.Reading.{comma_byte, index_of, after_comma, from_field, raw_field, quoted, field_of, field_start}
+use Rattle.csv_lines.proofs.ReadingLaws.{unquoted_yes, unquoted_no}
 
 -- ---- what stands from a field on is a tail of the line
 
@@ -41,37 +41,40 @@ from_tail s (suc k) = tail_trans s (after_comma s) (from_field (after_comma s) k
 
 -- ---- the field in that tail
 
-index_le : (b : ℕ) (s : List ℕ) → index_of b s ≤ length s
-unfolding index_of
-index_le b [] = omega arith
-index_le b (x ∷ s) = go (eqb x b) (index_of b s) (index_le b s)
-  where
-    go : (t : Bool) (i : ℕ) → i ≤ length s → cond t 0 (suc i) ≤ suc (length s)
-    go true i h = omega arith
-    go false i h = omega arith
-
 take_again : (m : ℕ) (l : List ℕ) → take (length (take m l)) l ≡ take m l
-take_again zero l = refl
-take_again (suc m) [] = refl
-take_again (suc m) (x ∷ l) = ap (λ (r : List ℕ). x ∷ r) (take_again m l)
+take_again m l = ap (λ (k : ℕ). take k l) (length-take m l) ∙ take_min m l
+
+drop_take : (n : ℕ) (l : List ℕ) → drop 1 (take n l) ≡ take (n - 1) (drop 1 l)
+drop_take zero l = refl
+drop_take (suc n) [] = sym (take-nil (suc n - 1))
+drop_take (suc n) (x ∷ l) =
+    let e : suc n - 1 ≡ n = omega arith in
+    rw e
 
 -- a text that is some first bytes of the line from i on
 part_at : (s f : List ℕ) (i j m : ℕ) → i ≡ j → f ≡ take m (drop i s) → take (length f) (drop j s) ≡ f
 part_at s f i j m e g = rw (← e, g) (take_again m (drop i s))
 
--- the field that starts at a and ends at e, in quotes or bare
-module _ (s : List ℕ) (k a e : ℕ) (h : drop a s ≡ from_field s k) (l : a ≤ length s) (g : e ≡ a + index_of comma_byte (drop a s)) where
-  part_cases : (t : Bool) → quoted (take (e - a) (drop a s)) ≡ t → take (length (field_of s k)) (drop (field_start s k) s) ≡ field_of s k
+-- field k, in quotes or bare, whose text begins at a and has n bytes
+module _ (s : List ℕ) (k a n : ℕ) (b : a ≡ length s - length (from_field s k)) (m : n ≡ index_of comma_byte (from_field s k)) where
+  from_a : drop a s ≡ from_field s k
+  from_a = ap (λ (i : ℕ). drop i s) b ∙ (from_tail s k).1
+
+  text_is : raw_field s k ≡ take n (drop a s)
+  text_is = rw (m, from_a)
+
+  part_cases : (t : Bool) → quoted (raw_field s k) ≡ t → take (length (field_of s k)) (drop (field_start s k) s) ≡ field_of s k
+  unfolding field_of field_start
   part_cases true q =
-      let room : e ≤ length s = omega (arith, index_le comma_byte (drop a s), length-drop a s) in
-      let start : a + 1 ≡ field_start s k = omega (arith, rw q at (marked_start s k a e h g l 0)) in
-      part_at s (field_of s k) (a + 1) (field_start s k) (e - 1 - (a + 1)) start (sym (marked_field s k a e h g) ∙ unquoted_yes _ q ∙ inner_part s a e (cut_room s a e room q) room)
+      let text : List ℕ = raw_field s k in
+      let p = unquoted_yes text q in
+      let few : length text ≤ n = omega (arith, ap length text_is, length-take n (drop a s)) in
+      let inner = ap (drop 1) text_is ∙ drop_take n (drop a s) ∙ ap (take (n - 1)) (drop-drop 1 a s) in
+      part_at s (field_of s k) (a + 1) (field_start s k) (length text - 1 - 1) (omega (arith, b, p.1))
+      (p.0 ∙ ap (take (length text - 1 - 1)) inner ∙ take-take (length text - 1 - 1) (n - 1) (drop (a + 1) s) (omega (arith, few)))
   part_cases false q =
-      let start : a ≡ field_start s k = omega (arith, rw q at (marked_start s k a e h g l 0)) in
-      part_at s (field_of s k) a (field_start s k) (e - a) start (sym (marked_field s k a e h g) ∙ unquoted_no _ q)
+      let p = unquoted_no (raw_field s k) q in
+      part_at s (field_of s k) a (field_start s k) n (omega (arith, b, p.1)) (p.0 ∙ text_is)
 
 pub field_part : (s : List ℕ) (k : ℕ) → take (length (field_of s k)) (drop (field_start s k) s) ≡ field_of s k
-field_part s k =
-    let a = length s - length (from_field s k) in
-    let e = a + index_of comma_byte (drop a s) in
-    part_cases s k a e (from_tail s k).1 (omega arith) refl (quoted (take (e - a) (drop a s))) refl
+field_part s k = part_cases s k _ _ refl refl (quoted (raw_field s k)) refl

@@ -1,16 +1,19 @@
 -- Laws of the lines of an input.
-use Prim.Native.Nat.{ℕ, suc, ◌+◌, ◌-◌, ◌≤◌, min}
-use mathlib.Core.Bool.{Bool, true, false}
+use Prim.Native.Nat.{ℕ, suc, ◌+◌, ◌-◌, ◌≤◌, ◌<◌, min}
 use mathlib.Core.List.{List, [], ◌∷◌, ◌++◌}
 use mathlib.Core.Path.{◌≡◌, refl, sym, ap, ◌∙◌}
-use native.Mathlib.Nat.{min-eq_left}
 use native.Mathlib.Omega.{arith}
-use borrow.Author.Tests.{ne_eqb, leb-true, leb-false}
-use lib.Dec.{leb}
-use lib.ListN.{length, take, get_or, length-append}
-use lib.Seq.{take_all, take-length, take-suc, take-append-add, length-take-le}
+use borrow.Author.Tests.{ne_eqb}
+use lib.ListN.{length, take, get_or}
+use lib.Seq.{take-suc, take-append-add, length-take-le}
+use Rattle.std.proofs.lemmas.List.{get_or-take, take_min}
 use Rattle.csv_lines.specs.Reading.{cr_byte}
 use Rattle.csv_lines.specs.Splitting.{chop}
+
+-- ---- no more than there are
+
+pub take_least : (l : List ℕ) (n k : ℕ) → k ≡ min n (length l) → take k l ≡ take n l
+take_least l n k e = ap (λ (i : ℕ). take i l) e ∙ take_min n l
 
 -- ---- the CR of a CR LF
 
@@ -26,46 +29,41 @@ chop_other [] x h = rw (ne_eqb x cr_byte h)
 chop_other (y ∷ []) x h = rw (ne_eqb x cr_byte h)
 chop_other (y ∷ z ∷ s) x h = ap (λ (t : List ℕ). y ∷ t) (chop_other (z ∷ s) x h)
 
-module _ (l : List ℕ) (h : ℕ) (pos : h ≡ 0 → ⊥) (le : h ≤ length l) where
-  last_held : take h l ≡ take (h - 1) l ++ (get_or l (h - 1) 0 ∷ [])
-  last_held =
-      let e : suc (h - 1) ≡ h = omega arith in
-      ap (λ (n : ℕ). take n l) (sym e) ∙ take-suc l (h - 1) 0 (omega arith)
+-- the first n bytes of l, of which there are k, and their last
+module _ (l : List ℕ) (n k : ℕ) (e : k ≡ min n (length l)) where
+  module _ (some : 1 ≤ length (take k l)) where
+    held_length : length (take k l) ≡ k
+    held_length = length-take-le k l (omega (arith, e))
 
-  pub chop_held : get_or l (h - 1) 0 ≡ cr_byte → take (h - 1) l ≡ chop (take h l)
-  chop_held e = sym (ap chop (last_held ∙ rw e) ∙ chop_cr (take (h - 1) l))
+    last_held : take k l ≡ take (k - 1) l ++ (get_or (take k l) (length (take k l) - 1) 0 ∷ [])
+    last_held =
+        let one : suc (k - 1) ≡ k = omega (arith, held_length) in
+        let i : length (take k l) - 1 ≡ k - 1 = omega (arith, held_length) in
+        ap (λ (m : ℕ). take m l) (sym one)
+        ∙ take-suc l (k - 1) 0 (omega (arith, held_length, e))
+        ∙ ap (λ (x : ℕ). take (k - 1) l ++ (x ∷ [])) (sym (get_or-take k l (k - 1) 0 (omega (arith, held_length))) ∙ ap (λ (m : ℕ). get_or (take k l) m 0) (sym i))
 
-  pub chop_kept : (get_or l (h - 1) 0 ≡ cr_byte → ⊥) → take h l ≡ chop (take h l)
-  chop_kept e = sym (ap chop last_held ∙ chop_other (take (h - 1) l) (get_or l (h - 1) 0) e ∙ sym last_held)
+    pub chop_held : get_or (take k l) (length (take k l) - 1) 0 ≡ cr_byte → take (k - 1) l ≡ chop (take n l)
+    chop_held f = sym (ap chop (sym (take_least l n k e) ∙ last_held ∙ rw f) ∙ chop_cr (take (k - 1) l))
+
+    pub chop_kept : (get_or (take k l) (length (take k l) - 1) 0 ≡ cr_byte → ⊥) → take k l ≡ chop (take n l)
+    chop_kept f = last_held ∙ sym (ap chop (sym (take_least l n k e) ∙ last_held) ∙ chop_other (take (k - 1) l) _ f)
+
+  pub chop_none : length (take k l) < 1 → take k l ≡ chop (take n l)
+  unfolding chop
+  chop_none h =
+      let nothing : take k l ≡ [] = grind (arith) in
+      nothing ∙ sym (ap chop (sym (take_least l n k e) ∙ nothing))
 
 -- ---- what is held
 
-module _ (l s : List ℕ) (h : ℕ) (le : h ≤ length l) where
-  held_cases : (n : ℕ) → n ≡ min (length s) (length l - h) → (t : Bool) → leb (length s) (length l - h) ≡ t → take h l ++ take n s ≡ take (length l) (take h l ++ s)
-  held_cases n e true f =
-      let fits : n ≡ length s = e ∙ min-eq_left (leb-true _ _ f) in
-      let short : length (take h l ++ s) ≤ length l = omega (arith, length-append (take h l) s, length-take-le h l le, leb-true (length s) (length l - h) f) in
-      rw fits (ap (λ (t : List ℕ). take h l ++ t) (take-length s) ∙ sym (take_all (length l) (take h l ++ s) short))
-  held_cases n e false f =
-      let full : length l ≡ length (take h l) + n = omega (arith, length-take-le h l le, leb-false (length s) (length l - h) f, e) in
-      sym (ap (λ (k : ℕ). take k (take h l ++ s)) full ∙ take-append-add (take h l) s n)
+-- the first h bytes of l and then as many of s as there is room for
+pub held_is : (l s : List ℕ) (h n : ℕ) → h ≤ length l → n ≡ min (length l - h) (length s) → take h l ++ take n s ≡ take (length l) (take h l ++ s)
+held_is l s h n le e =
+    let full : length l ≡ length (take h l) + (length l - h) = omega (arith, length-take-le h l le) in
+    ap (λ (t : List ℕ). take h l ++ t) (take_least s (length l - h) n e)
+    ∙ sym (ap (λ (k : ℕ). take k (take h l ++ s)) full ∙ take-append-add (take h l) s (length l - h))
 
-  -- the first bytes of what is held and of s, as far as there is room
-  pub held_is : (n : ℕ) → n ≡ min (length s) (length l - h) → take h l ++ take n s ≡ take (length l) (take h l ++ s)
-  held_is n e = held_cases n e (leb (length s) (length l - h)) refl
+-- ---- what chopped goes by: the last byte that is held
 
--- ---- no more than there are
-
-pub take_least : (l : List ℕ) (n k : ℕ) → k ≡ min n (length l) → take k l ≡ take n l
-take_least l n k e = go (leb n (length l)) refl
-  where
-    go : (t : Bool) → leb n (length l) ≡ t → take k l ≡ take n l
-    go true f = ap (λ (i : ℕ). take i l) (e ∙ min-eq_left (leb-true n (length l) f))
-    go false f =
-        let all : length l ≤ k = omega (arith, e, leb-false n (length l) f) in
-        let more : length l ≤ n = omega (arith, leb-false n (length l) f) in
-        take_all k l all ∙ sym (take_all n l more)
-
--- ---- what chopped goes by: the last byte that is held; what is held is the same up to the line's length (take_least)
-
-pub ruleset chopped_laws = (chop_held, chop_kept, take_least)
+pub ruleset chopped_laws = (chop_held, chop_kept, chop_none)

@@ -1,10 +1,9 @@
 -- How a line is read: its fields, a field as a number, a line as three numbers (document 01, 'Lines that programs read
 -- and write', and Paper 1). A line is the list of its bytes; its end is no part of it.
-use Rattle.std.specs.Prelude.{ℕ, zero, suc, ◌+◌, ◌-◌, ◌*◌, ◌^◌, Bool, true, cond, ◌&&◌, List, [], ◌∷◌, leb, ltb, eqb, length, get_or, take, drop}
-use Rattle.csv_lines.specs.declared.Num.{Num}
-use Rattle.csv_lines.specs.declared.Num.TheVariants.{Bad, Is}
-use Rattle.csv_lines.specs.declared.Line.{Line}
-use Rattle.csv_lines.specs.declared.Line.TheVariants.{TooLong, NotThree, Numbers}
+use Rattle.std.specs.Prelude.{ℕ, zero, suc, ◌+◌, ◌-◌, ◌*◌, ◌^◌, Bool, true, cond, ◌&&◌, List, [], ◌∷◌, Option, None, Some, Result, Ok, Err, ◌≡◌, leb, ltb, eqb, length, get_or, take, drop}
+use Rattle.std.specs.Borrow.{Bor}
+use Rattle.csv_lines.specs.declared.BadLine.{BadLine}
+use Rattle.csv_lines.specs.declared.BadLine.TheVariants.{TooLong, NotThree}
 
 -- ---- bytes, and the limit
 
@@ -78,6 +77,12 @@ field_of s k = unquoted (raw_field s k)
 unfoldable pub field_start : List ℕ → ℕ → ℕ
 field_start s k = length s - length (from_field s k) + quote_bytes (raw_field s k)
 
+-- r is the part of s that begins at place i and holds these bytes: what is promised of a part of the caller's own line
+pub record IsPart (s r : Bor (List ℕ)) (bytes : List ℕ) (i : ℕ) : Type 0 where
+  pub now : r.now ≡ bytes
+  pub block : r.ref_ptr.0 ≡ s.ref_ptr.0
+  pub start : r.ref_ptr.1 ≡ s.ref_ptr.1 + i
+
 -- ---- numbers
 
 abbrev pub is_digit : ℕ → Bool
@@ -93,20 +98,24 @@ value_from a [] = a
 value_from a (x ∷ s) = value_from (a * 10 + (x - zero_byte)) s
 
 -- 'one or more decimal digits making a number of 32 bits, leading zeros allowed'
-unfoldable pub num_of : List ℕ → Num
-num_of s = cond (ltb 0 (length s) && all_digits s && ltb (value_from 0 s) (2 ^ 32)) (Is (value_from 0 s)) Bad
+unfoldable pub num_of : List ℕ → Option ℕ
+num_of s = cond (ltb 0 (length s) && all_digits s && ltb (value_from 0 s) (2 ^ 32)) (Some (value_from 0 s)) None
 
 -- ---- lines
 
+-- three numbers of a line, or why they are not there
+abbrev pub Line : Type 0
+Line = Result (ℕ × ℕ × ℕ) BadLine
+
 -- three fields, each a number
-abbrev pub three_of : Num → Num → Num → Line
-three_of (Is x) (Is y) (Is z) = Numbers x y z
-three_of (Is x) (Is y) Bad = NotThree
-three_of (Is x) Bad c = NotThree
-three_of Bad b c = NotThree
+abbrev pub three_of : Option ℕ → Option ℕ → Option ℕ → Line
+three_of (Some x) (Some y) (Some z) = Ok (x, y, z)
+three_of (Some x) (Some y) None = Err NotThree
+three_of (Some x) None c = Err NotThree
+three_of None b c = Err NotThree
 
 -- Paper 1 'refuses a line over 64 bytes .., then one that is not three such fields': three fields have two commas
 unfoldable pub line_of : List ℕ → Line
 line_of s =
-    cond (ltb max_line (length s)) TooLong
-    (cond (eqb (count_of comma_byte s) 2) (three_of (num_of (field_of s 0)) (num_of (field_of s 1)) (num_of (field_of s 2))) NotThree)
+    cond (ltb max_line (length s)) (Err TooLong)
+    (cond (eqb (count_of comma_byte s) 2) (three_of (num_of (field_of s 0)) (num_of (field_of s 1)) (num_of (field_of s 2))) (Err NotThree))

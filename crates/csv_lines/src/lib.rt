@@ -8,19 +8,11 @@ pub mod reading;
 pub mod splitting;
 pub mod writing;
 
-// A field read as a number of 32 bits.
-#[derive(Clone, Copy)]
-pub enum Num {
-    Bad,
-    Is(u32),
-}
-
-// A line read as three numbers, for Paper 1's program.
-#[derive(Clone, Copy)]
-pub enum Line {
+// Why a line is not three numbers, for Paper 1's program.
+#[derive(Clone, Copy, Debug, PartialEq, Eq)]
+pub enum BadLine {
     TooLong,
     NotThree,
-    Numbers(u32, u32, u32),
 }
 
 // The fields of an output line after its number: refusal or 0, outcome, ts, console, value.

@@ -1,4 +1,6 @@
 // The lines of an input that comes in parts: the line so far is held in lent memory until its end is there.
+// That memory and how much of it is held are no struct: the memory is lent anew with each part, and the number is the
+// caller's to keep.
 ghost use Rattle.std.specs.Prelude.{◌++◌, ◌≡◌, ◌≤◌, min, length, take};
 ghost use Rattle.csv_lines.specs.Splitting.{chop};
 
@@ -12,7 +14,7 @@ pub const HELD_BYTES: usize = MAX_LINE + 2;
 pub fn least(a: usize, b: usize) -> usize
     ensures { result ≡ min a b }
 {
-    if a < b { a } else { b }
+    a.min(b)
 }
 
 // Puts the bytes behind those that are held, as far as there is room, and answers how many are held then. No more are
@@ -20,28 +22,21 @@ pub fn least(a: usize, b: usize) -> usize
 pub fn hold(line: &mut [u8], held: usize, bytes: &[u8]) -> usize
     ensures { (result ≤ length line.new) × (take result line.new ≡ take (length line.old) (take held line.old ++ bytes.now)) }
 {
-    let held = least(held, line.len());
-    let n = least(bytes.len(), line.len() - held);
-    let mut i = 0;
-    while i < n {
-        line[held + i] = bytes[i];
-        i += 1;
-    }
+    let held = held.min(line.len());
+    let n = (line.len() - held).min(bytes.len());
+    line[held..held + n].copy_from_slice(&bytes[..n]);
     held + n
 }
 
 // How many of the held bytes are the line, once its LF is there: a CR before that is part of the line's end. No more
 // are held than the line has bytes, whatever number is given.
-#[tactic(auto, using(crate::proofs::SplittingLaws::chopped_laws), unfolding(crate::specs::Splitting::chop))]
+#[tactic(auto, using(crate::proofs::SplittingLaws::chopped_laws))]
 pub fn chopped(line: &[u8], held: usize) -> usize
     ensures { (result ≤ held) × (take result line.now ≡ chop (take held line.now)) }
 {
-    let held = least(held, line.len());
-    if held == 0 {
-        return 0;
+    let held = held.min(line.len());
+    match &line[..held] {
+        [.., b'\r'] => held - 1,
+        _ => held,
     }
-    if line[held - 1] == b'\r' {
-        return held - 1;
-    }
-    held
 }

@@ -9,9 +9,9 @@ use Rattle.parts.specs.Outcomes.{accepted}
 use Rattle.board.specs.declared.Answer.{Answer}
 use Rattle.board.specs.declared.Board.{Board}
 use Rattle.board.specs.WellFormed.{well_formed}
-use Rattle.csv_lines.specs.Reading.{lf_byte, line_of}
-use Rattle.csv_lines.specs.declared.Line.{Line}
-use Rattle.csv_lines.specs.declared.Line.TheVariants.{TooLong, NotThree, Numbers}
+use Rattle.std.specs.Prelude.{Ok, Err}
+use Rattle.csv_lines.specs.declared.BadLine.TheVariants.{TooLong, NotThree}
+use Rattle.csv_lines.specs.Reading.{Line, lf_byte, line_of}
 use Rattle.csv_lines.specs.Splitting.{chop}
 use Rattle.verbs.proofs.VerbsLaws.{verb_keeps_well_formed}
 use Rattle.schedule.specs.Schedule.{answer_of, board_after, effect_of}
@@ -28,9 +28,9 @@ after_formed b a h i = go (accepted a.outcome)
 
 answer_formed : (l : Line) (b : Board) → well_formed b ≡ true → well_formed (answer_of l b).board ≡ true
 unfolding answer_of
-answer_formed TooLong b h = h
-answer_formed NotThree b h = h
-answer_formed (Numbers z x y) b h = verb_keeps_well_formed z x y b h
+answer_formed (Err TooLong) b h = h
+answer_formed (Err NotThree) b h = h
+answer_formed (Ok (z, x, y)) b h = verb_keeps_well_formed z x y b h
 
 line_formed : (b : Board) (n : ℕ) (line : List ℕ) → well_formed b ≡ true → well_formed (effect_of b n line).board ≡ true
 unfolding effect_of

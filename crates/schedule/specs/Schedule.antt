@@ -1,5 +1,5 @@
 -- Schedules (document 02, Paper 1): what a program that reads an input of lines writes.
-use Rattle.std.specs.Prelude.{ℕ, ◌+◌, ◌-◌, ◌^◌, min, cond, List, [], ◌∷◌, ◌++◌}
+use Rattle.std.specs.Prelude.{ℕ, ◌+◌, ◌-◌, ◌^◌, min, cond, List, [], ◌∷◌, ◌++◌, Ok, Err}
 use Rattle.decisions.specs.Refusals.{refusal_number}
 use Rattle.decisions.specs.declared.refusals.Refusal.TheVariants.{NotThreeFields, LineTooLong}
 use Rattle.board.specs.declared.Answer.{Answer}
@@ -7,9 +7,8 @@ use Rattle.board.specs.declared.Board.{Board}
 use Rattle.board.specs.Answers.{refuse}
 use Rattle.board.specs.Boards.{fresh_board}
 use Rattle.board.specs.Steps.{smallest}
-use Rattle.csv_lines.specs.declared.Line.{Line}
-use Rattle.csv_lines.specs.declared.Line.TheVariants.{TooLong, NotThree, Numbers}
-use Rattle.csv_lines.specs.Reading.{line_of}
+use Rattle.csv_lines.specs.declared.BadLine.TheVariants.{TooLong, NotThree}
+use Rattle.csv_lines.specs.Reading.{Line, line_of}
 use Rattle.parts.specs.Outcomes.{accepted, outcome_number, outcome_tag, outcome_value}
 use Rattle.csv_lines.specs.Splitting.{lines_of}
 use Rattle.csv_lines.specs.declared.Output.{Output}
@@ -19,9 +18,9 @@ use Rattle.verbs.specs.Verbs.{step_of}
 -- 'It refuses a line over 64 bytes with 13, then one that is not three such fields with 11, then an unknown verb with 12
 -- [step_of], all before document 01's questions'
 unfoldable pub answer_of : Line → Board → Answer
-answer_of TooLong b = refuse b LineTooLong
-answer_of NotThree b = refuse b NotThreeFields
-answer_of (Numbers v x y) b = step_of v x y b
+answer_of (Err TooLong) b = refuse b LineTooLong
+answer_of (Err NotThree) b = refuse b NotThreeFields
+answer_of (Ok (v, x, y)) b = step_of v x y b
 
 -- the answer to a line
 abbrev pub answer_to : List ℕ → Board → Answer

@@ -9,7 +9,7 @@ use board::refusals::Refusal;
 use board::{Answer, Board};
 use csv_lines::reading::read_line;
 use csv_lines::writing::put_line;
-use csv_lines::{Line, Output};
+use csv_lines::{BadLine, Output};
 use verbs::step_known;
 
 // The board after a line, and how far the output is written.
@@ -36,11 +36,10 @@ fn answer_to(line: &[u8], b: Board, formed: bool) -> Answer
     requires { formed ≡ well_formed b }
     ensures { result ≡ answer_to line.now b }
 {
-    let l = read_line(line);
-    match l {
-        Line::TooLong => Answer::refused(Refusal::LineTooLong, b),
-        Line::NotThree => Answer::refused(Refusal::NotThreeFields, b),
-        Line::Numbers(verb, x, y) => step_known(b, formed, verb, x, y),
+    match read_line(line) {
+        Err(BadLine::TooLong) => Answer::refused(Refusal::LineTooLong, b),
+        Err(BadLine::NotThree) => Answer::refused(Refusal::NotThreeFields, b),
+        Ok((verb, x, y)) => step_known(b, formed, verb, x, y),
     }
 }
 
