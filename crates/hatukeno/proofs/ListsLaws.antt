@@ -1,5 +1,5 @@
 -- Laws of lists of steps.
-use Prim.Native.Nat.{ℕ, zero, suc, ◌+◌, ◌*◌, ◌/◌, ◌%◌, ◌≤◌, ◌<◌}
+use Prim.Native.Nat.{ℕ, zero, suc, ◌+◌, ◌*◌, ◌/◌, ◌≤◌, ◌<◌}
 use mathlib.Core.Bool.{Bool, true, false, cond, ◌||◌}
 use mathlib.Core.List.{List}
 use mathlib.Core.Path.{◌≡◌, refl, sym, ◌∙◌}
@@ -35,14 +35,6 @@ module _ (w q s : ℕ) where
       go : (t : Bool) → leb (q / step_words) (s / answer_words) ≡ t → 2 ≡ list_short_by w q s
       go true e = absurd (omega (arith, leb-true (q / step_words) (s / answer_words) e))
       go false e = rw (le-leb board_words w g, e)
-
-  pub list_uneven : board_words ≤ w → q / step_words ≤ s / answer_words → (q % step_words ≡ 0 → ⊥) → 3 ≡ list_short_by w q s
-  unfolding list_short_by
-  list_uneven g h n = rw (le-leb board_words w g, le-leb (q / step_words) (s / answer_words) h, ne_eqb (q % step_words) 0 n)
-
-  pub list_long : board_words ≤ w → q / step_words ≤ s / answer_words → q % step_words ≡ 0 → 0 ≡ list_short_by w q s
-  unfolding list_short_by
-  list_long g h e = rw (le-leb board_words w g, le-leb (q / step_words) (s / answer_words) h, eq-eqb (q % step_words) 0 e)
 
   pub list_long_board : list_short_by w q s ≡ 0 → board_words ≤ w
   list_long_board e = go (leb board_words w) refl

@@ -21,14 +21,6 @@ pub ones_size : (s : ℕ) → s < 256 → ones s ≡ size s
 unfolding every ones_is_size ones ones_in size count member
 ones_size s h = eqb-true (ones s) (size s) (every_at ones_is_size 256 refl s h)
 
--- one shifted by k is bit k
-shift_is_bit : ℕ → Bool
-shift_is_bit k = eqb (1 * 2 ^ k % 256) (2 ^ k)
-
-pub shift_bit : (k : ℕ) → k < 8 → 1 * 2 ^ k % 256 ≡ 2 ^ k
-unfolding every shift_is_bit
-shift_bit k h = eqb-true (1 * 2 ^ k % 256) (2 ^ k) (every_at shift_is_bit 8 refl k h)
-
 -- 'or' with bit k puts node k into the set
 or_is_insert : ℕ → ℕ → Bool
 or_is_insert s k = eqb (bit_or s (2 ^ k)) (insert s k)

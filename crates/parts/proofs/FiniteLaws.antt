@@ -1,7 +1,7 @@
 -- Laws of tests: what branch facts say of them, of 'and' and 'implies', and of a test over the numbers below n.
 -- A loop that tests each number cites every_none, every_more, every_fails and every_done.
-use mathlib.Core.Path.{◌≡◌, refl, sym, ◌∙◌}
-use mathlib.Core.Bool.{Bool, true, false, not, ◌&&◌}
+use mathlib.Core.Path.{◌≡◌, refl}
+use mathlib.Core.Bool.{Bool, true, false, ◌&&◌}
 use Prim.Native.Nat.{ℕ, zero, suc, ◌+◌, ◌≤◌, ◌<◌}
 use native.Mathlib.Numerals.{add-one}
 use native.Mathlib.Omega.{arith}
@@ -12,13 +12,6 @@ use Rattle.parts.specs.Finite.{◌implies◌, every}
 -- a test of numbers from the fact that a branch knows
 pub ruleset tests = (le-ltb, lt-ltb, le-leb, lt-leb, eq-eqb, ne_eqb)
 
--- a call that answers the test d, and the branch on its answer
-pub said_no : {x d : Bool} → x ≡ d → not x ≡ true → d ≡ false
-said_no {x} e h = sym e ∙ not-true x h
-
-pub said_yes : {x d : Bool} → x ≡ d → not x ≡ false → d ≡ true
-said_yes {x} e h = sym e ∙ not-false x h
-
 pub and_left : (x y : Bool) → (x && y) ≡ true → x ≡ true
 and_left true y h = refl
 and_left false y h = h
@@ -26,10 +19,6 @@ and_left false y h = h
 pub and_right : (x y : Bool) → (x && y) ≡ true → y ≡ true
 and_right true y h = h
 and_right false y h = cc
-
-pub and_true : (x : Bool) → (x && true) ≡ x
-and_true true = refl
-and_true false = refl
 
 and_false : (x y : Bool) → y ≡ false → (x && y) ≡ false
 and_false true y h = h

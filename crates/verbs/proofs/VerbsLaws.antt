@@ -1,26 +1,12 @@
 -- Laws of the verbs.
-use Prim.Native.Nat.{ℕ, zero, suc, ◌≤◌}
-use mathlib.Core.Path.{◌≡◌, refl}
-use native.Mathlib.Omega.{arith}
+use Prim.Native.Nat.{ℕ, zero, suc}
+use mathlib.Core.Path.{◌≡◌}
 use mathlib.Core.Bool.{true}
-use Rattle.decisions.specs.declared.refusals.Refusal.TheVariants.{NoSuchVerb}
 use Rattle.board.specs.declared.Board.{Board}
-use Rattle.board.specs.Answers.{refuse}
 use Rattle.board.specs.WellFormed.{well_formed}
 use Rattle.board.specs.Runs.{BeginRead, BeginWrite, ConsoleDown, Deliver, NodeDown, NodeUp, step}
 use Rattle.guarantee.proofs.KeepsFormed.{fresh_is_well_formed, step_keeps_well_formed}
 use Rattle.verbs.specs.Verbs.{step_of}
-
-pub no_such_verb : (z x y : ℕ) (b : Board) → 7 ≤ z → refuse b NoSuchVerb ≡ step_of z x y b
-unfolding step_of
-no_such_verb zero x y b h = absurd (omega arith)
-no_such_verb (suc zero) x y b h = absurd (omega arith)
-no_such_verb (suc (suc zero)) x y b h = absurd (omega arith)
-no_such_verb (suc (suc (suc zero))) x y b h = absurd (omega arith)
-no_such_verb (suc (suc (suc (suc zero)))) x y b h = absurd (omega arith)
-no_such_verb (suc (suc (suc (suc (suc zero))))) x y b h = absurd (omega arith)
-no_such_verb (suc (suc (suc (suc (suc (suc zero)))))) x y b h = absurd (omega arith)
-no_such_verb (suc (suc (suc (suc (suc (suc (suc z))))))) x y b h = refl
 
 -- whatever the verb, a well-formed board stays so
 pub verb_keeps_well_formed : (z x y : ℕ) (b : Board) → well_formed b ≡ true → well_formed (step_of z x y b).board ≡ true

@@ -1,2 +1,0 @@
--- Laws of questions.
-pub mod QuestionsLaws
