@@ -29,7 +29,7 @@ pub fn ask(w: Kind, v: u32, x: Console) -> Console
     }
 }
 
-// Whether the console asks and has no answer yet from node k.
+// Whether the console asks and has no answer yet from node k. The phase is no parameter: a closure's would be longer.
 #[tactic(auto, unfolding(crate::specs::Changes::awaits))]
 pub fn awaits_reply(x: Console, k: NodeId) -> bool
     ensures { result ≡ awaits is_asking x k.0 }

@@ -1,5 +1,6 @@
 // What the steps but for fresh and deliver come to: the questions in their order, then the change of one part. Of the first question the
-// answer is handed in: formed says whether the board is well formed.
+// answer is handed in: formed says whether the board is well formed. It and the setup, a part and its number stay apart:
+// the questions ask each of them alone, and a struct would be taken to pieces at once.
 ghost use Rattle.std.specs.Prelude.{◌≡◌, None, cond};
 ghost use Rattle.decisions.specs.Steps.{accept, begins, ends, falls, rises};
 

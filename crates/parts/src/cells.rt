@@ -4,7 +4,7 @@ ghost use Rattle.parts.specs.Parts.{cell_index, frame_in};
 
 use crate::{CELLS, Cell, ConsoleId, Frame, NODES, NodeId};
 
-// Where the cell of a console and a node stands.
+// Where the cell of a console and a node stands. The casts stay: std has no From of u32 for usize, which may be narrower.
 #[tactic(auto, unfolding(crate::specs::Parts::cell_index))]
 pub fn cell_index(c: ConsoleId, k: NodeId) -> usize
     ensures { result ≡ cell_index c.0 k.0 }

@@ -32,6 +32,7 @@ pub struct Tag {
 }
 
 // Document 01's frame, with 'nothing' for an empty cell. Ask and put go to the node, reply and ack to the console.
+// No Option in a cell, and no struct of tag and value: document 01 names this form, a tag and a value side by side.
 #[derive(Clone, Copy)]
 pub enum Frame {
     Nothing,

@@ -13,7 +13,7 @@ impl Outcome {
         !matches!(self, Outcome::Refused)
     }
 
-    // The number that an outcome is written as.
+    // The number that an outcome is written as. A method and no From: a finished one's tag and value are not in it.
     pub fn number(self) -> u32
         ensures { result ≡ outcome_number self }
     {
@@ -49,7 +49,8 @@ impl Outcome {
     }
 }
 
-// The number that a comparison is written as: 0 for none, then lower, same and higher.
+// The number that a comparison is written as: 0 for none, then lower, same and higher. Neither type is of this crate, so
+// that it can be no From.
 pub fn compared_number(compared: Option<Ordering>) -> u32
     ensures { result ≡ compared_number compared }
 {

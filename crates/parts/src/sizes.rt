@@ -13,7 +13,7 @@ pub fn majority_of(n: u32) -> u32
 }
 
 impl Setup {
-    // The count of answers at which asking ends.
+    // The count of answers at which asking ends. It and the next have one body: each keeps the name of its own definition.
     #[tactic(auto, unfolding(crate::specs::Sizes::ask_size))]
     pub fn ask_size(self) -> u32
         ensures { result ≡ ask_size self }
