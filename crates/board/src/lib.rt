@@ -19,7 +19,7 @@ pub struct Board {
 }
 
 // What a step answers: the outcome, its refusal (None: it is accepted), the next board, and how the tag of a reply that it
-// took in compared with the old best (None: it took none in).
+// took in compared with the old best (None: it took none in). Document 01 names this form, outcome and refusal apart.
 #[derive(Clone, Copy)]
 pub struct Answer {
     pub outcome: Outcome,

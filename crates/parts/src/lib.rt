@@ -25,7 +25,7 @@ pub struct ConsoleId(pub u32);
 pub struct NodeId(pub u32);
 
 // Document 01's tag: a timestamp, and the number of the console that chose it.
-#[derive(Clone, Copy)]
+#[derive(Clone, Copy, Debug, PartialEq, Eq)]
 pub struct Tag {
     pub ts: u32,
     pub console: u32,

@@ -9,7 +9,7 @@ use parts::{MAX_TS, Setup, Tag};
 pub(crate) fn is_zero(t: Tag, v: u32) -> bool
     ensures { result ≡ is_zero t v }
 {
-    t.ts == 0 && t.console == 0 && v == 0
+    t == Tag::ZERO && v == 0
 }
 
 #[tactic(auto, unfolding(crate::specs::Clauses::tag_ok))]
