@@ -1,9 +1,6 @@
--- Laws of reading and writing one part more (LayoutLaws), of words that stand for a board (StandingLaws); parts stored
--- in words and read again (Stored, PartsBack); and the claims.
-pub mod LayoutLaws
+-- Laws of parts one after the other (Rows), of words that stand for a board (StandingLaws); and the claims.
+pub mod Rows
 pub mod StandingLaws
-pub mod Stored
-pub mod PartsBack
 pub mod RoundTrip
 pub mod WrittenBack
 pub mod Damaged

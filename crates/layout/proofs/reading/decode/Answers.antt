@@ -1,16 +1,16 @@
--- By whether the words stand for a board: those are long enough for one.
-use Rattle.std.proofs.Common.{sym, ◌∙◌}
-use Rattle.layout.proofs.StandingLaws.{standing_long}
-use Rattle.layout.specs.Standing.{decoded}
+-- The board is decoded from the first words (StandingLaws).
+use Rattle.std.proofs.Common.{◌∙◌, sym}
+use Rattle.layout.proofs.StandingLaws.{first_decoded, first_damaged, too_few}
+use Rattle.layout.proofs.reading.decode.Goals.{in_default-via-in-Some+else-parts_stand, in_default-via-in_default}
 use Rattle.layout.proofs.reading.decode.Goals as goal
 
-pub returns-then-not-is_standing : goal.returns-then-not-is_standing
-unfolding decoded
-returns-then-not-is_standing c = rw (sym c.is_standing.ensures ∙ c.if-not-is_standing.true) c.none.ensures
+pub returns-in-Some : goal.returns-in-Some
+returns-in-Some c =
+    let first = c.in-Some.ensures.cases in
+    c.board_from.ensures ∙ first_decoded c.args.w.now c.in-Some.words.now first.enough first.same (sym c.parts_stand.ensures ∙ c.if-parts_stand.true)
 
-pub board_from-requires : goal.board_from-requires
-board_from-requires c = standing_long _ (sym c.is_standing.ensures ∙ c.if-not-is_standing.false)
-
-pub returns : goal.returns
-unfolding decoded
-returns c = rw (sym c.is_standing.ensures ∙ c.if-not-is_standing.false) c.board_from.ensures
+pub returns-in_default : goal.returns-in_default
+returns-in_default c = c.none.ensures ∙ elim c.in_default.branch [
+  in_default-via-in-Some+else-parts_stand x ↦ first_damaged c.args.w.now x.in-Some.words.now x.in-Some.ensures.cases.same (sym x.parts_stand.ensures ∙ x.if-parts_stand.false) |
+  in_default-via-in_default x ↦ too_few c.args.w.now x.in_default.ensures.cases
+]

@@ -1,0 +1,63 @@
+// A cell in words: its frame's number, and the frame's tag and value, or zeros.
+ghost use Rattle.std.specs.Prelude.{◌≡◌};
+ghost use Rattle.layout.specs.Layout.{frame_of, cell_from, cell_fields};
+ghost use Rattle.layout.specs.Standing.{cell_stands};
+ghost use Rattle.layout.specs.PartsBack.{cell_laws};
+
+use crate::CELL_WORDS;
+use crate::in_words::InWords;
+use parts::{Cell, Frame, Tag};
+
+// The last number of a frame.
+const LAST_FRAME: u32 = 4;
+
+impl InWords<CELL_WORDS> for Cell {
+    ghost fits = { λ _. Unit {0} };
+
+    ghost from = { cell_from };
+
+    ghost stands = { cell_stands };
+
+    ghost fields = { cell_fields };
+
+    ghost laws = { cell_laws };
+
+    #[tactic(auto, unfolding(crate::specs::Layout::cell_from))]
+    fn from_words(words: &[u32; CELL_WORDS]) -> Cell {
+        let [frame, ts, console, value] = *words;
+        Cell {
+            frame: frame_of(frame, Tag { ts, console }, value),
+        }
+    }
+
+    #[tactic(auto, unfolding(crate::specs::Standing::cell_stands, crate::specs::Standing::frame_stands))]
+    fn stand(words: &[u32; CELL_WORDS]) -> bool {
+        let [f, ts, console, value] = *words;
+        (f <= LAST_FRAME) & ((f == 2) | (f == 3) | ((ts == 0) & (console == 0) & (value == 0)))
+    }
+
+    #[tactic(auto, unfolding(crate::specs::Layout::cell_fields, crate::specs::Layout::frame_fields))]
+    fn to_words(self) -> [u32; CELL_WORDS] {
+        match self.frame {
+            Frame::Nothing => [0, 0, 0, 0],
+            Frame::Ask => [1, 0, 0, 0],
+            Frame::Reply(tag, value) => [2, tag.ts, tag.console, value],
+            Frame::Put(tag, value) => [3, tag.ts, tag.console, value],
+            Frame::Ack => [4, 0, 0, 0],
+        }
+    }
+}
+
+// A function and no From: neither a frame nor u32 is a type of this crate.
+#[tactic(auto, unfolding(crate::specs::Layout::frame_of))]
+fn frame_of(number: u32, tag: Tag, value: u32) -> Frame
+    ensures { result ≡ frame_of number tag value }
+{
+    match number {
+        0 => Frame::Nothing,
+        1 => Frame::Ask,
+        2 => Frame::Reply(tag, value),
+        3 => Frame::Put(tag, value),
+        _ => Frame::Ack,
+    }
+}
