@@ -36,16 +36,18 @@ pub stand_within : (stands : List ℕ → Bool) (s k m : ℕ) (w : List ℕ) →
 unfolding all_stand
 stand_within stands s k m w l = ap (list_all stands) (chunks_within s k m w l)
 
--- ---- a list stored from p on: it stands there between what stood before and beyond, and one more after it
-
-pub sets_middle : (u w : List ℕ) (p : ℕ) → p + length u ≤ length w → take p w ++ (u ++ drop (length u) (drop p w)) ≡ sets w p u
-sets_middle u w p h = rw (drop-drop (length u) p w) (sym (append_assoc (take p w) u (drop (p + length u) w)) ∙ sym (sets-eq u w p h))
+-- ---- a list stored from p on, and another after it, and one number more
 
 pub sets_append : (u v w : List ℕ) (p : ℕ) → sets (sets w p u) (p + length u) v ≡ sets w p (u ++ v)
 sets_append [] v w p = let e : p + 0 ≡ p = omega arith in rw e
 sets_append (x ∷ u) v w p =
     let e : p + suc (length u) ≡ suc p + length u = omega arith in
     rw e (sets_append u v (set w p x) (suc p))
+
+pub sets_more : (u w : List ℕ) (p i : ℕ) → i < length u → set (sets w p (take i u)) (p + i) (get_or u i 0) ≡ sets w p (take (i + 1) u)
+sets_more u w p i l =
+    let long : i ≡ length (take i u) = sym (length-take-le i u (omega arith)) in
+    ap (λ n. set (sets w p (take i u)) (p + n) (get_or u i 0)) long ∙ sets_append (take i u) (get_or u i 0 ∷ []) w p ∙ ap (sets w p) (sym (take_more u i 0 l))
 
 -- ---- parts with their laws
 

@@ -17,6 +17,7 @@ use Rattle.parts.specs.declared.Console.{Console}
 use Rattle.parts.specs.declared.Setup.{Setup}
 use Rattle.parts.specs.Finite.{one}
 use Rattle.parts.specs.Limits.{max_nodes, max_consoles, max_cells}
+use Rattle.parts.specs.Tags.{zero_tag}
 use Rattle.parts.specs.Parts.{cell_of}
 use Rattle.board.specs.declared.Board.{Board}
 use Rattle.layout.specs.InWords.{all_from}
@@ -129,16 +130,29 @@ state_number Down = 5
 unfoldable pub console_fields : Console → List ℕ
 console_fields x = state_number x.state ∷ x.wanted ∷ x.answered ∷ x.best.ts ∷ x.best.console ∷ x.value ∷ one x.alike ∷ []
 
--- beside a frame without a tag all is 0
-unfoldable pub frame_fields : Frame → List ℕ
-frame_fields Nothing = 0 ∷ 0 ∷ 0 ∷ 0 ∷ []
-frame_fields Ask = 1 ∷ 0 ∷ 0 ∷ 0 ∷ []
-frame_fields (Reply t v) = 2 ∷ t.ts ∷ t.console ∷ v ∷ []
-frame_fields (Put t v) = 3 ∷ t.ts ∷ t.console ∷ v ∷ []
-frame_fields Ack = 4 ∷ 0 ∷ 0 ∷ 0 ∷ []
+unfoldable pub frame_number : Frame → ℕ
+frame_number Nothing = 0
+frame_number Ask = 1
+frame_number (Reply t v) = 2
+frame_number (Put t v) = 3
+frame_number Ack = 4
+
+unfoldable pub frame_tag : Frame → Tag
+frame_tag Nothing = zero_tag
+frame_tag Ask = zero_tag
+frame_tag (Reply t v) = t
+frame_tag (Put t v) = t
+frame_tag Ack = zero_tag
+
+unfoldable pub frame_value : Frame → ℕ
+frame_value Nothing = 0
+frame_value Ask = 0
+frame_value (Reply t v) = v
+frame_value (Put t v) = v
+frame_value Ack = 0
 
 unfoldable pub cell_fields : Cell → List ℕ
-cell_fields x = frame_fields x.frame
+cell_fields x = frame_number x.frame ∷ (frame_tag x.frame).ts ∷ (frame_tag x.frame).console ∷ frame_value x.frame ∷ []
 
 -- the words of a board
 unfoldable pub board_fields : Board → List ℕ

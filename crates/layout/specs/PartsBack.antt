@@ -11,9 +11,10 @@ use Rattle.parts.specs.declared.Kind.TheVariants.{Read, Write}
 use Rattle.parts.specs.declared.State.{State}
 use Rattle.parts.specs.declared.State.TheVariants.{Idle, Asking, Telling, Down}
 use Rattle.parts.specs.Finite.{one}
+use Rattle.parts.specs.Parts.{cell_of}
 use Rattle.parts.proofs.FiniteLaws.{and_left, and_right}
 use Rattle.layout.specs.InWords.{PartLaws}
-use Rattle.layout.specs.Layout.{Byte, word, node_words, console_words, cell_words, tag_of, release_of, node_from, state_of, console_from, frame_of, cell_from, release_number, node_fields, state_number, console_fields, frame_fields, cell_fields}
+use Rattle.layout.specs.Layout.{Byte, word, node_words, console_words, cell_words, tag_of, release_of, node_from, state_of, console_from, frame_of, cell_from, release_number, node_fields, state_number, console_fields, frame_number, frame_tag, frame_value, cell_fields}
 use Rattle.layout.specs.Standing.{last_state, last_frame, last_set, last_mark, release_stands, node_stands, console_stands, frame_stands, cell_stands}
 
 -- ---- marks and releases
@@ -139,33 +140,21 @@ console_laws = record {
 
 -- ---- cells
 
--- what a frame's words are read as, and whether they stand
-abbrev frame_from : List ℕ → Frame
-frame_from u = frame_of (word u 0) (tag_of (word u 1) (word u 2)) (word u 3)
-
-frame_back : (f : Frame) → frame_from (frame_fields f) ≡ f
-unfolding frame_of frame_fields
+frame_back : (f : Frame) → frame_of (frame_number f) (frame_tag f) (frame_value f) ≡ f
+unfolding frame_of frame_number frame_tag frame_value
 frame_back Nothing = refl
 frame_back Ask = refl
 frame_back (Reply t v) = refl
 frame_back (Put t v) = refl
 frame_back Ack = refl
 
-frame_standing : (f : Frame) → frame_stands (word (frame_fields f) 0) (word (frame_fields f) 1) (word (frame_fields f) 2) (word (frame_fields f) 3) ≡ true
-unfolding frame_stands frame_fields
+frame_standing : (f : Frame) → frame_stands (frame_number f) (frame_tag f).ts (frame_tag f).console (frame_value f) ≡ true
+unfolding frame_stands frame_number frame_tag frame_value
 frame_standing Nothing = refl
 frame_standing Ask = refl
 frame_standing (Reply t v) = refl
 frame_standing (Put t v) = refl
 frame_standing Ack = refl
-
-frame_wide : (f : Frame) → length (frame_fields f) ≡ cell_words
-unfolding frame_fields
-frame_wide Nothing = refl
-frame_wide Ask = refl
-frame_wide (Reply t v) = refl
-frame_wide (Put t v) = refl
-frame_wide Ack = refl
 
 -- beside a frame without a tag all is 0
 zeros : (t c v : ℕ) → (eqb t 0 && eqb c 0 && eqb v 0) ≡ true → (t ≡ 0) × (c ≡ 0) × (v ≡ 0)
@@ -175,8 +164,8 @@ zeros t c v h = (
   eqb-true v 0 (and_right (eqb t 0 && eqb c 0) (eqb v 0) h),
 )
 
-frame_again : (f t c v : ℕ) → frame_stands f t c v ≡ true → frame_fields (frame_of f (tag_of t c) v) ≡ f ∷ t ∷ c ∷ v ∷ []
-unfolding frame_stands frame_of frame_fields
+frame_again : (f t c v : ℕ) → frame_stands f t c v ≡ true → cell_fields (cell_of (frame_of f (tag_of t c) v)) ≡ f ∷ t ∷ c ∷ v ∷ []
+unfolding frame_stands frame_of cell_fields frame_number frame_tag frame_value
 frame_again zero t c v h = let z = zeros t c v h in rw (z.0, z.1, z.2)
 frame_again (suc zero) t c v h = let z = zeros t c v h in rw (z.0, z.1, z.2)
 frame_again (suc (suc zero)) t c v h = refl
@@ -200,7 +189,7 @@ unfolding cell_fields cell_from cell_stands
 cell_laws = record {
   some = omega arith;
   few = omega arith;
-  wide = λ x. frame_wide x.frame;
+  wide = λ x. refl;
   back = λ x _. rw (frame_back x.frame);
   standing = λ x _. frame_standing x.frame;
   again = cell_again;

@@ -1,6 +1,6 @@
 // A cell in words: its frame's number, and the frame's tag and value, or zeros.
 ghost use Rattle.std.specs.Prelude.{◌≡◌};
-ghost use Rattle.layout.specs.Layout.{frame_of, cell_from, cell_fields};
+ghost use Rattle.layout.specs.Layout.{frame_of, frame_number, frame_tag, frame_value, cell_from, cell_fields};
 ghost use Rattle.layout.specs.Standing.{cell_stands};
 ghost use Rattle.layout.specs.PartsBack.{cell_laws};
 
@@ -36,19 +36,14 @@ impl InWords<CELL_WORDS> for Cell {
         (f <= LAST_FRAME) & ((f == 2) | (f == 3) | ((ts == 0) & (console == 0) & (value == 0)))
     }
 
-    #[tactic(auto, unfolding(crate::specs::Layout::cell_fields, crate::specs::Layout::frame_fields))]
+    #[tactic(auto, unfolding(crate::specs::Layout::cell_fields))]
     fn to_words(self) -> [u32; CELL_WORDS] {
-        match self.frame {
-            Frame::Nothing => [0, 0, 0, 0],
-            Frame::Ask => [1, 0, 0, 0],
-            Frame::Reply(tag, value) => [2, tag.ts, tag.console, value],
-            Frame::Put(tag, value) => [3, tag.ts, tag.console, value],
-            Frame::Ack => [4, 0, 0, 0],
-        }
+        let (tag, value) = carried(self.frame);
+        [frame_number(self.frame), tag.ts, tag.console, value]
     }
 }
 
-// A function and no From: neither a frame nor u32 is a type of this crate.
+// Functions and no From: neither a frame nor u32 is a type of this crate.
 #[tactic(auto, unfolding(crate::specs::Layout::frame_of))]
 fn frame_of(number: u32, tag: Tag, value: u32) -> Frame
     ensures { result ≡ frame_of number tag value }
@@ -59,5 +54,30 @@ fn frame_of(number: u32, tag: Tag, value: u32) -> Frame
         2 => Frame::Reply(tag, value),
         3 => Frame::Put(tag, value),
         _ => Frame::Ack,
+    }
+}
+
+#[tactic(auto, unfolding(crate::specs::Layout::frame_number))]
+fn frame_number(frame: Frame) -> u32
+    ensures { result ≡ frame_number frame }
+{
+    match frame {
+        Frame::Nothing => 0,
+        Frame::Ask => 1,
+        Frame::Reply(_, _) => 2,
+        Frame::Put(_, _) => 3,
+        Frame::Ack => 4,
+    }
+}
+
+// The tag and the value that a reply or a put carries; zeros of any other frame.
+#[tactic(auto, unfolding(crate::specs::Layout::frame_tag, crate::specs::Layout::frame_value))]
+fn carried(frame: Frame) -> (Tag, u32)
+    ensures tag { result.0 ≡ frame_tag frame }
+    ensures value { result.1 ≡ frame_value frame }
+{
+    match frame {
+        Frame::Reply(tag, value) | Frame::Put(tag, value) => (tag, value),
+        _ => (Tag::ZERO, 0),
     }
 }

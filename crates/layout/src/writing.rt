@@ -18,7 +18,9 @@ pub fn put_words(w: &mut [u32], p: usize, fields: &[u32])
     if w.len() < fields.len() || p > w.len() - fields.len() {
         return;
     }
-    w[p..p + fields.len()].copy_from_slice(fields);
+    for i in 0..fields.len() {
+        w[p + i] = fields[i];
+    }
 }
 
 // Writes the parts one after the other into the words from p on. It also tells what the parameter's type says, its

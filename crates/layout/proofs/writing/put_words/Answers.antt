@@ -1,9 +1,12 @@
--- The fields are written over the middle of the words (sets_middle).
-use Rattle.std.proofs.Common.{◌≡◌, ◌+◌, ◌-◌, length, arith}
-use Rattle.layout.proofs.Rows.{sets_middle}
+-- One turn of the loop is one field more (sets_more).
+use Rattle.std.proofs.Common.{rules}
+use Rattle.layout.proofs.Rows.{sets_more}
 use Rattle.layout.proofs.writing.put_words.Goals as goal
 
-pub returns : goal.returns
-returns c =
-    let all : c.args.p + length c.args.fields.now - c.args.p ≡ length c.args.fields.now = omega arith in
-    (λ within. rw (all, c.copy_from_slice.ensures.after) (sets_middle c.args.fields.now c.args.w.now c.args.p within), λ past. absurd (omega arith))
+pub loop-i-preserved : goal.loop-i-preserved
+loop-i-preserved c = (
+  search rules,
+  search rules,
+  search rules,
+  rw c.loop-i.invariant.3 (sets_more c.args.fields.now c.args.w.now c.args.p c.loop-i.i c.loop-i-test.true),
+)
