@@ -10,29 +10,26 @@ use crate::standing::parts_stand;
 use crate::{BOARD_WORDS, CELLS_AT, CONSOLES_AT, NODES_AT};
 use board::Board;
 
-// The first K parts in the words.
-fn parts_from<T: InWords<N>, const N: usize, const K: usize>(w: &[u32]) -> [T; K]
+// Reads the first K parts in the words over those that are there.
+fn read_parts<T: InWords<N>, const N: usize, const K: usize>(parts: &mut [T; K], w: &[u32])
     requires { K * N ≤ length w.now }
-    ensures { result ≡ all_from T.from N K w.now }
+    ensures { parts.new ≡ all_from T.from N K w.now }
 {
     let each = words_of_each::<T, N, K>(w);
-    let mut parts = [T::from_words(&[0; N]); K];
     for k in 0..K {
         parts[k] = T::from_words(&each[k]);
     }
-    parts
 }
 
-#[tactic(auto, unfolding(crate::specs::Layout::board_in))]
 fn board_from(w: &[u32; BOARD_WORDS]) -> Board
     ensures { result ≡ board_in w.now }
 {
-    Board {
-        setup: setup_from(w),
-        nodes: parts_from(&w[NODES_AT..]),
-        consoles: parts_from(&w[CONSOLES_AT..]),
-        cells: parts_from(&w[CELLS_AT..]),
-    }
+    let mut board = Board::none();
+    board.setup = setup_from(w);
+    read_parts(&mut board.nodes, &w[NODES_AT..]);
+    read_parts(&mut board.consoles, &w[CONSOLES_AT..]);
+    read_parts(&mut board.cells, &w[CELLS_AT..]);
+    board
 }
 
 // The board in the first words. Words that stand for no board, too few of them too, are read as one that is not well

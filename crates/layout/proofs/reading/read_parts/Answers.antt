@@ -2,7 +2,7 @@
 use Rattle.std.proofs.Common.{◌∙◌, sym, arith, rules}
 use Rattle.std.proofs.lemmas.List.{take_all, take_more_set, map_more}
 use Rattle.layout.specs.InWords.{all_from}
-use Rattle.layout.proofs.reading.parts_from.Goals as goal
+use Rattle.layout.proofs.reading.read_parts.Goals as goal
 
 pub loop-k-preserved : goal.loop-k-preserved
 loop-k-preserved g c =
