@@ -21,15 +21,14 @@ fn read_parts<T: InWords<N>, const N: usize, const K: usize>(parts: &mut [T; K],
     }
 }
 
-fn board_from(w: &[u32; BOARD_WORDS]) -> Board
-    ensures { result ≡ board_in w.now }
+// Reads the board in the words over the one that is there.
+fn read_board(board: &mut Board, w: &[u32; BOARD_WORDS])
+    ensures { board.new ≡ board_in w.now }
 {
-    let mut board = Board::none();
     board.setup = setup_from(w);
     read_parts(&mut board.nodes, &w[NODES_AT..]);
     read_parts(&mut board.consoles, &w[CONSOLES_AT..]);
     read_parts(&mut board.cells, &w[CELLS_AT..]);
-    board
 }
 
 // The board in the first words. Words that stand for no board, too few of them too, are read as one that is not well
@@ -37,8 +36,12 @@ fn board_from(w: &[u32; BOARD_WORDS]) -> Board
 pub fn decode(w: &[u32]) -> Board
     ensures { result ≡ decoded w.now }
 {
-    match w.first_chunk::<BOARD_WORDS>() {
-        Some(words) if parts_stand(words) => board_from(words),
-        _ => Board::none(),
+    let mut board = Board::none();
+    let Some(words) = w.first_chunk::<BOARD_WORDS>() else {
+        return board;
+    };
+    if parts_stand(words) {
+        read_board(&mut board, words);
     }
+    board
 }

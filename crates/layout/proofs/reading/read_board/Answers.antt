@@ -4,7 +4,7 @@ use Rattle.parts.specs.Limits.{max_nodes, max_consoles, max_cells}
 use Rattle.layout.specs.InWords.{all_from}
 use Rattle.layout.specs.Layout.{node_words, console_words, cell_words, node_offset, console_offset, cell_offset, node_from, console_from, cell_from, board_in}
 use Rattle.layout.proofs.Rows.{from_within}
-use Rattle.layout.proofs.reading.board_from.Goals as goal
+use Rattle.layout.proofs.reading.read_board.Goals as goal
 
 pub returns : goal.returns
 unfolding board_in
