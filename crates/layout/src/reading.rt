@@ -16,8 +16,8 @@ fn read_parts<T: InWords<N>, const N: usize, const K: usize>(parts: &mut [T; K],
     ensures { parts.new ≡ all_from T.from N K w.now }
 {
     let each = words_of_each::<T, N, K>(w);
-    for k in 0..K {
-        parts[k] = T::from_words(&each[k]);
+    for (k, words) in each.iter().enumerate() {
+        parts[k] = T::from_words(words);
     }
 }
 

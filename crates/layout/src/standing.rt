@@ -16,7 +16,7 @@ fn all_stand<T: InWords<N>, const N: usize, const K: usize>(w: &[u32]) -> bool
     let each = words_of_each::<T, N, K>(w);
     let mut ok = true;
     for words in each {
-        ok = ok & T::stand(words);
+        ok &= T::stand(words);
     }
     ok
 }

@@ -18,8 +18,9 @@ pub fn put_words(w: &mut [u32], p: usize, fields: &[u32])
     if w.len() < fields.len() || p > w.len() - fields.len() {
         return;
     }
-    for i in 0..fields.len() {
-        w[p + i] = fields[i];
+    // By copy_from_slice, encode takes half as long again (docs/MEASURED.md).
+    for (i, field) in fields.iter().enumerate() {
+        w[p + i] = *field;
     }
 }
 
