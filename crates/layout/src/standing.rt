@@ -13,12 +13,9 @@ fn all_stand<T: InWords<N>, const N: usize, const K: usize>(w: &[u32]) -> bool
     requires { K * N ≤ length w.now }
     ensures { result ≡ all_stand T.stands N K w.now }
 {
-    let each = words_of_each::<T, N, K>(w);
-    let mut ok = true;
-    for words in each {
-        ok &= T::stand(words);
-    }
-    ok
+    words_of_each::<T, N, K>(w).iter().all(|words| -> bool
+        ensures { result ≡ T.stands words.now }
+    { T::stand(words) })
 }
 
 // Whether the release and each part stands in the words.
