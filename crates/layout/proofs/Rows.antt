@@ -1,8 +1,8 @@
 -- Parts of one kind that stand one after the other, in any words: the argument that nodes, consoles and cells share.
 use Rattle.std.proofs.Common.{ℕ, zero, suc, ◌+◌, ◌-◌, ◌*◌, ◌≤◌, ◌<◌, Bool, true, List, [], ◌∷◌, ◌++◌, map, length, take, drop, set, get_or, ◌≡◌, refl, sym, ap, ◌∙◌, arith}
 use Rattle.std.proofs.Math.Seq.{take-add}
-use Rattle.std.proofs.lemmas.List.{append_assoc, length-append, take-take, take_at, drop_at, drop-take, drop-drop, length-drop, length-take-le, flat_map_more, take_more}
-use Rattle.std.proofs.lemmas.List.Edits.{sets, sets-eq}
+use Rattle.std.proofs.lemmas.List.{append_assoc, length-append, take-take, take_at, drop_at, drop-take, length-drop, length-take-le, flat_map_more, take_more}
+use Rattle.std.proofs.lemmas.List.Edits.{sets}
 use Rattle.std.proofs.lemmas.List.Elements.{All-head, All-tail}
 use Rattle.std.specs.List.{All, flat_map, list_all}
 use Rattle.std.specs.Simd.{first_chunks}

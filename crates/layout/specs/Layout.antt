@@ -10,6 +10,7 @@ use Rattle.parts.specs.declared.Frame.{Frame}
 use Rattle.parts.specs.declared.Frame.TheVariants.{Nothing, Ask, Reply, Put, Ack}
 use Rattle.parts.specs.declared.Cell.{Cell}
 use Rattle.parts.specs.declared.Node.{Node}
+use Rattle.parts.specs.declared.Kind.{Kind}
 use Rattle.parts.specs.declared.Kind.TheVariants.{Read, Write}
 use Rattle.parts.specs.declared.State.{State}
 use Rattle.parts.specs.declared.State.TheVariants.{Idle, Asking, Telling, Down}
@@ -119,12 +120,14 @@ setup_fields σ = σ.n ∷ σ.m ∷ release_number σ.release ∷ []
 unfoldable pub node_fields : Node → List ℕ
 node_fields x = one x.up ∷ x.tag.ts ∷ x.tag.console ∷ x.value ∷ []
 
+abbrev pub kind_number : Kind → ℕ
+kind_number Read = 0
+kind_number Write = 1
+
 unfoldable pub state_number : State → ℕ
 state_number Idle = 0
-state_number (Asking Read) = 1
-state_number (Asking Write) = 2
-state_number (Telling Read) = 3
-state_number (Telling Write) = 4
+state_number (Asking w) = 1 + kind_number w
+state_number (Telling w) = 3 + kind_number w
 state_number Down = 5
 
 unfoldable pub console_fields : Console → List ℕ

@@ -32,8 +32,8 @@ impl InWords<CELL_WORDS> for Cell {
 
     #[tactic(auto, unfolding(crate::specs::Standing::cell_stands, crate::specs::Standing::frame_stands))]
     fn stand(words: &[u32; CELL_WORDS]) -> bool {
-        let [f, ts, console, value] = *words;
-        (f <= LAST_FRAME) & ((f == 2) | (f == 3) | ((ts == 0) & (console == 0) & (value == 0)))
+        let [frame, ts, console, value] = *words;
+        frame <= LAST_FRAME && (frame == 2 || frame == 3 || (ts == 0 && console == 0 && value == 0))
     }
 
     #[tactic(auto, unfolding(crate::specs::Layout::cell_fields))]

@@ -39,7 +39,7 @@ impl InWords<CONSOLE_WORDS> for Console {
 
     #[tactic(auto, unfolding(crate::specs::Standing::console_stands))]
     fn stand(words: &[u32; CONSOLE_WORDS]) -> bool {
-        (words[0] <= LAST_STATE) & (words[2] <= LAST_SET) & (words[6] <= LAST_MARK)
+        words[0] <= LAST_STATE && words[2] <= LAST_SET && words[6] <= LAST_MARK
     }
 
     #[tactic(auto, unfolding(crate::specs::Layout::console_fields))]

@@ -28,7 +28,7 @@ pub(crate) fn setup_words(setup: Setup) -> [u32; SETUP_WORDS]
 pub(crate) fn release_stands(number: u32) -> bool
     ensures { result ≡ release_stands number }
 {
-    (number == 1) | (number == 2)
+    number == 1 || number == 2
 }
 
 // Functions and no From: neither a release nor u32 is a type of this crate.
@@ -36,10 +36,9 @@ pub(crate) fn release_stands(number: u32) -> bool
 fn release_of(number: u32) -> Release
     ensures { result ≡ release_of number }
 {
-    if number == 2 {
-        Release::Two
-    } else {
-        Release::One
+    match number {
+        2 => Release::Two,
+        _ => Release::One,
     }
 }
 

@@ -5,7 +5,7 @@ ghost use Rattle.layout.specs.Standing.{parts_stand};
 
 use crate::in_words::{InWords, words_of_each};
 use crate::setups::release_stands;
-use crate::{BOARD_WORDS, CELLS_AT, CELL_WORDS, CONSOLES_AT, CONSOLE_WORDS, NODES_AT, NODE_WORDS};
+use crate::{BOARD_WORDS, CELL_WORDS, CELLS_AT, CONSOLE_WORDS, CONSOLES_AT, NODE_WORDS, NODES_AT};
 use parts::{CELLS, CONSOLES, Cell, Console, NODES, Node};
 
 // Whether the words of each of the first K parts stand for one.
@@ -13,12 +13,14 @@ fn all_stand<T: InWords<N>, const N: usize, const K: usize>(w: &[u32]) -> bool
     requires { K * N ≤ length w.now }
     ensures { result ≡ all_stand T.stands N K w.now }
 {
-    words_of_each::<T, N, K>(w).iter().all(|words| -> bool
-        ensures { result ≡ T.stands words.now }
-    { T::stand(words) })
+    words_of_each::<T, N, K>(w).iter().all(
+        |words| -> bool
+            ensures { result ≡ T.stands words.now }
+        { T::stand(words) },
+    )
 }
 
-// Whether the release and each part stands in the words.
+// Whether the release and each part stands in the words. By & and no &&, so that the proof has one path.
 #[tactic(auto, unfolding(crate::specs::Standing::parts_stand))]
 pub(crate) fn parts_stand(w: &[u32; BOARD_WORDS]) -> bool
     ensures { result ≡ parts_stand w.now }

@@ -12,5 +12,5 @@ pub returns : goal.returns
 returns g c =
     let enough = (le-div_iff_mul-le g.met.T.InWords.laws.some).1 c.requires in
     let first : take g.row.K c.as_chunks.result.0.now ≡ first_chunks g.row.N g.row.K c.args.w.now
-      = rw c.as_chunks.ensures.front (fewer_chunks g.row.N g.row.K _ c.args.w.now enough) in
+    = rw c.as_chunks.ensures.front (fewer_chunks g.row.N g.row.K _ c.args.w.now enough) in
     record { value = first; len = ap length first ∙ chunk_count g.row.N g.row.K c.args.w.now }

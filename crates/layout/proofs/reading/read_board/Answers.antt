@@ -11,9 +11,9 @@ unfolding board_in
 returns c =
     let w = c.args.w.now in
     let nodes : c.read_parts.new.parts ≡ all_from node_from node_words max_nodes (drop (node_offset 0) w)
-      = c.read_parts.ensures ∙ from_within node_from node_words max_nodes 236 (drop (node_offset 0) w) (omega arith) in
+    = c.read_parts.ensures ∙ from_within node_from node_words max_nodes 236 (drop (node_offset 0) w) (omega arith) in
     let consoles : c.read_parts-2.new.parts ≡ all_from console_from console_words max_consoles (drop (console_offset 0) w)
-      = c.read_parts-2.ensures ∙ from_within console_from console_words max_consoles 216 (drop (console_offset 0) w) (omega arith) in
+    = c.read_parts-2.ensures ∙ from_within console_from console_words max_consoles 216 (drop (console_offset 0) w) (omega arith) in
     let cells : c.read_parts-3.new.parts ≡ all_from cell_from cell_words max_cells (drop (cell_offset 0) w)
-      = c.read_parts-3.ensures ∙ from_within cell_from cell_words max_cells 160 (drop (cell_offset 0) w) (omega arith) in
+    = c.read_parts-3.ensures ∙ from_within cell_from cell_words max_cells 160 (drop (cell_offset 0) w) (omega arith) in
     rw (c.setup_from-board.ensures, nodes, consoles, cells)

@@ -12,9 +12,9 @@ unfolding parts_stand
 returns c =
     let w = c.args.w.now in
     let nodes : c.all_stand.result ≡ all_stand node_stands node_words max_nodes (drop (node_offset 0) w)
-      = c.all_stand.ensures ∙ stand_within node_stands node_words max_nodes 236 (drop (node_offset 0) w) (omega arith) in
+    = c.all_stand.ensures ∙ stand_within node_stands node_words max_nodes 236 (drop (node_offset 0) w) (omega arith) in
     let consoles : c.all_stand-2.result ≡ all_stand console_stands console_words max_consoles (drop (console_offset 0) w)
-      = c.all_stand-2.ensures ∙ stand_within console_stands console_words max_consoles 216 (drop (console_offset 0) w) (omega arith) in
+    = c.all_stand-2.ensures ∙ stand_within console_stands console_words max_consoles 216 (drop (console_offset 0) w) (omega arith) in
     let cells : c.all_stand-3.result ≡ all_stand cell_stands cell_words max_cells (drop (cell_offset 0) w)
-      = c.all_stand-3.ensures ∙ stand_within cell_stands cell_words max_cells 160 (drop (cell_offset 0) w) (omega arith) in
+    = c.all_stand-3.ensures ∙ stand_within cell_stands cell_words max_cells 160 (drop (cell_offset 0) w) (omega arith) in
     rw (c.release_stands.ensures, nodes, consoles, cells)
