@@ -7,7 +7,7 @@ use Rattle.std.proofs.lemmas.List.Elements.{All-head, All-tail}
 use Rattle.std.specs.List.{All, flat_map, list_all}
 use Rattle.std.specs.Simd.{first_chunks}
 use Rattle.parts.proofs.FiniteLaws.{and_left, and_right}
-use Rattle.layout.specs.InWords.{PartLaws, all_from, all_stand}
+use Rattle.layout.specs.InWords.{Shape, all_from, all_stand}
 
 -- ---- the words of k parts, of s words each
 
@@ -49,12 +49,12 @@ sets_more u w p i l =
     let long : i ≡ length (take i u) = sym (length-take-le i u (omega arith)) in
     ap (λ n. set (sets w p (take i u)) (p + n) (get_or u i 0)) long ∙ sets_append (take i u) (get_or u i 0 ∷ []) w p ∙ ap (sets w p) (sym (take_more u i 0 l))
 
--- ---- parts with their laws
+-- ---- parts of so many fields
 
-module _ {A : Type 0} {s : ℕ} {Fits : A → Type 0} {from : List ℕ → A} {stands : List ℕ → Bool} {fields : A → List ℕ} (laws : PartLaws s Fits from stands fields) where
+module _ {A : Type 0} {s : ℕ} {fields : A → List ℕ} (shape : Shape s fields) where
   pub fields_long : (xs : List A) → length (flat_map fields xs) ≡ length xs * s
   fields_long [] = omega arith
-  fields_long (x ∷ xs) = length-append (fields x) (flat_map fields xs) ∙ omega (arith, laws.wide x, fields_long xs)
+  fields_long (x ∷ xs) = length-append (fields x) (flat_map fields xs) ∙ omega (arith, shape.wide x, fields_long xs)
 
   -- one part more is written
   pub one_more : (xs : List A) (i : ℕ) (d : A) (w : List ℕ) (p : ℕ) → i < length xs
@@ -68,22 +68,33 @@ module _ {A : Type 0} {s : ℕ} {Fits : A → Type 0} {from : List ℕ → A} {s
 
   -- the words of a part, and what comes after them
   first_words : (x : A) (xs : List A) (r : List ℕ) → take s (flat_map fields (x ∷ xs) ++ r) ≡ fields x
-  first_words x xs r = ap (take s) (append_assoc (fields x) (flat_map fields xs) r) ∙ take_at (fields x) (flat_map fields xs ++ r) s (laws.wide x)
+  first_words x xs r = ap (take s) (append_assoc (fields x) (flat_map fields xs) r) ∙ take_at (fields x) (flat_map fields xs ++ r) s (shape.wide x)
 
   other_words : (x : A) (xs : List A) (r : List ℕ) → drop s (flat_map fields (x ∷ xs) ++ r) ≡ flat_map fields xs ++ r
-  other_words x xs r = ap (drop s) (append_assoc (fields x) (flat_map fields xs) r) ∙ drop_at (fields x) (flat_map fields xs ++ r) s (laws.wide x)
+  other_words x xs r = ap (drop s) (append_assoc (fields x) (flat_map fields xs) r) ∙ drop_at (fields x) (flat_map fields xs ++ r) s (shape.wide x)
 
+-- ---- parts with their laws
+
+-- what reading back rests on, of a part of s words: what was written is read again and stands for a part, and what
+-- stands for a part is what that part is written as. Of a part is known what its type says (Fits)
+pub record PartLaws {A : Type 0} (s : ℕ) (Fits : A → Type 0) (from : List ℕ → A) (stands : List ℕ → Bool) (fields : A → List ℕ) : Type 0 where
+  pub shape : Shape s fields
+  pub back : (x : A) → Fits x → from (fields x) ≡ x
+  pub standing : (x : A) → Fits x → stands (fields x) ≡ true
+  pub again : (u : List ℕ) → length u ≡ s → stands u ≡ true → fields (from u) ≡ u
+
+module _ {A : Type 0} {s : ℕ} {Fits : A → Type 0} {from : List ℕ → A} {stands : List ℕ → Bool} {fields : A → List ℕ} (laws : PartLaws s Fits from stands fields) where
   -- parts that were written are read again
   pub all_back : (xs : List A) (r : List ℕ) → All Fits xs → all_from from s (length xs) (flat_map fields xs ++ r) ≡ xs
   unfolding all_from
   all_back [] r h = refl
-  all_back (x ∷ xs) r h = rw (first_words x xs r, other_words x xs r, laws.back x (All-head Fits x xs h), all_back xs r (All-tail Fits x xs h))
+  all_back (x ∷ xs) r h = rw (first_words laws.shape x xs r, other_words laws.shape x xs r, laws.back x (All-head Fits x xs h), all_back xs r (All-tail Fits x xs h))
 
   -- and stand
   pub all_standing : (xs : List A) (r : List ℕ) → All Fits xs → all_stand stands s (length xs) (flat_map fields xs ++ r) ≡ true
   unfolding all_stand
   all_standing [] r h = refl
-  all_standing (x ∷ xs) r h = rw (first_words x xs r, other_words x xs r, laws.standing x (All-head Fits x xs h)) (all_standing xs r (All-tail Fits x xs h))
+  all_standing (x ∷ xs) r h = rw (first_words laws.shape x xs r, other_words laws.shape x xs r, laws.standing x (All-head Fits x xs h)) (all_standing xs r (All-tail Fits x xs h))
 
   -- and those that stand were written
   pub all_again : (k : ℕ) (w : List ℕ) → k * s ≤ length w → all_stand stands s k w ≡ true → flat_map fields (all_from from s k w) ≡ take (k * s) w

@@ -7,7 +7,7 @@ use Rattle.std.specs.List.{flat_map}
 use Rattle.parts.specs.Limits.{max_nodes, max_consoles, max_cells}
 use Rattle.layout.specs.Layout.{setup_words, board_words, word, node_words, console_words, cell_words, node_offset, console_offset, cell_offset, setup_from, board_in, setup_fields, node_fields, console_fields, cell_fields, board_fields, encoded}
 use Rattle.layout.specs.Standing.{stands, decoded}
-use Rattle.layout.specs.PartsBack.{release_again, node_laws, console_laws, cell_laws}
+use Rattle.layout.proofs.PartsBack.{release_again, node_laws, console_laws, cell_laws}
 use Rattle.layout.specs.Claims.{WrittenBack}
 use Rattle.layout.proofs.Rows.{all_again}
 use Rattle.layout.proofs.StandingLaws.{standing_long, release_standing, nodes_standing, consoles_standing, cells_standing}

@@ -1,18 +1,14 @@
 -- A part that stands in so many words: it is read from its own words, they say whether they stand for a part, and it has
 -- its fields as words. Parts of one kind stand one after the other.
-use Rattle.std.specs.Prelude.{ℕ, ◌^◌, ◌<◌, Bool, true, List, ◌≡◌, length, map}
+use Rattle.std.specs.Prelude.{ℕ, ◌^◌, ◌<◌, Bool, List, ◌≡◌, length, map}
 use Rattle.std.specs.List.{list_all}
 use Rattle.std.specs.Simd.{first_chunks}
 
--- what reading back rests on, of a part of s words: what was written is read again and stands for a part, and what
--- stands for a part is what that part is written as. Of a part is known what its type says (Fits)
-pub record PartLaws {A : Type 0} (s : ℕ) (Fits : A → Type 0) (from : List ℕ → A) (stands : List ℕ → Bool) (fields : A → List ℕ) : Type 0 where
+-- a part has some words, no more than 32 bits count, and as many fields
+pub record Shape {A : Type 0} (s : ℕ) (fields : A → List ℕ) : Type 0 where
   pub some : 0 < s
   pub few : s < 2 ^ 32
   pub wide : (x : A) → length (fields x) ≡ s
-  pub back : (x : A) → Fits x → from (fields x) ≡ x
-  pub standing : (x : A) → Fits x → stands (fields x) ≡ true
-  pub again : (u : List ℕ) → length u ≡ s → stands u ≡ true → fields (from u) ≡ u
 
 -- the first k parts in the words, of s words each
 unfoldable pub all_from : {A : Type 0} → (List ℕ → A) → ℕ → ℕ → List ℕ → List A

@@ -1,7 +1,8 @@
 -- A board in words of 32 bits: n, m and the release, then so many words for each node, console and cell; how it is read
 -- from them, and how it is written into them.
-use Rattle.std.specs.Prelude.{ℕ, zero, suc, ◌+◌, ◌*◌, ◌%◌, ◌<◌, cond, not, List, [], ◌∷◌, ◌++◌, ◌≡◌, eqb, length, get_or, drop}
+use Rattle.std.specs.Prelude.{ℕ, zero, suc, ◌+◌, ◌*◌, ◌%◌, ◌<◌, cond, not, List, [], ◌∷◌, ◌++◌, ◌≡◌, refl, eqb, length, get_or, drop}
 use Rattle.std.specs.List.{All, flat_map}
+use Rattle.std.proofs.Common.{arith}
 use Rattle.std.proofs.lemmas.List.Edits.{sets}
 use Rattle.parts.specs.declared.Release.{Release}
 use Rattle.parts.specs.declared.Release.TheVariants.{One, Two}
@@ -21,7 +22,7 @@ use Rattle.parts.specs.Limits.{max_nodes, max_consoles, max_cells}
 use Rattle.parts.specs.Tags.{zero_tag}
 use Rattle.parts.specs.Parts.{cell_of}
 use Rattle.board.specs.declared.Board.{Board}
-use Rattle.layout.specs.InWords.{all_from}
+use Rattle.layout.specs.InWords.{Shape, all_from}
 
 -- ---- how many words each part has, and where it stands
 
@@ -164,6 +165,20 @@ board_fields b = setup_fields b.setup ++ flat_map node_fields b.nodes ++ flat_ma
 -- the words with the board in the first of them
 unfoldable pub encoded : List ℕ → Board → List ℕ
 encoded w b = sets w 0 (board_fields b)
+
+-- ---- the shape of each kind of part
+
+pub node_shape : Shape node_words node_fields
+unfolding node_fields
+node_shape = record { some = omega arith; few = omega arith; wide = λ x. refl }
+
+pub console_shape : Shape console_words console_fields
+unfolding console_fields
+console_shape = record { some = omega arith; few = omega arith; wide = λ x. refl }
+
+pub cell_shape : Shape cell_words cell_fields
+unfolding cell_fields
+cell_shape = record { some = omega arith; few = omega arith; wide = λ x. refl }
 
 -- ---- what a board's type says, and reading back rests on
 

@@ -1,8 +1,7 @@
 -- A board in words of 32 bits: parts that stand in so many words each, where those of a board stand, which words stand
--- for a board, the laws of each kind of part, and what is claimed of both.
+-- for a board, and what is claimed of both.
 pub mod InWords
 pub mod Layout
 pub mod Standing
-pub mod PartsBack
 pub mod Claims
 pub mod Header

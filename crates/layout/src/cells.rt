@@ -1,8 +1,7 @@
 // A cell in words: its frame's number, and the frame's tag and value, or zeros.
 ghost use Rattle.std.specs.Prelude.{◌≡◌};
-ghost use Rattle.layout.specs.Layout.{frame_of, frame_number, frame_tag, frame_value, cell_from, cell_fields};
+ghost use Rattle.layout.specs.Layout.{frame_of, frame_number, frame_tag, frame_value, cell_from, cell_fields, cell_shape};
 ghost use Rattle.layout.specs.Standing.{cell_stands};
-ghost use Rattle.layout.specs.PartsBack.{cell_laws};
 
 use crate::CELL_WORDS;
 use crate::in_words::InWords;
@@ -20,7 +19,7 @@ impl InWords<CELL_WORDS> for Cell {
 
     ghost fields = { cell_fields };
 
-    ghost laws = { cell_laws };
+    ghost shape = { cell_shape };
 
     #[tactic(auto, unfolding(crate::specs::Layout::cell_from))]
     fn from_words(words: &[u32; CELL_WORDS]) -> Cell {

@@ -1,7 +1,7 @@
 // A part of a board that stands in N words.
 ghost use Rattle.std.specs.Prelude.{ℕ, ◌*◌, ◌≤◌, Bool, List, ◌≡◌, length};
 ghost use Rattle.std.specs.Simd.{first_chunks};
-ghost use Rattle.layout.specs.InWords.{PartLaws};
+ghost use Rattle.layout.specs.InWords.{Shape};
 
 // The last number of a mark, that is of a bool.
 pub(crate) const LAST_MARK: u32 = 1;
@@ -28,8 +28,8 @@ pub(crate) trait InWords<const N: usize>: Copy {
         ensures value { result ≡ fields self }
         ensures typed { fits self };
 
-    // What was written is read again, and what stands was written.
-    ghost laws: { PartLaws N fits from stands fields };
+    // Reading back rests on more (PartLaws in proofs/Rows.antt), which proofs/PartsBack.antt has of each kind.
+    ghost shape: { Shape N fields };
 }
 
 // The words of each of the first K parts.

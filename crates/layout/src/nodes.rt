@@ -1,7 +1,6 @@
 // A node in words: up, ts, console and value.
-ghost use Rattle.layout.specs.Layout.{node_from, node_fields};
+ghost use Rattle.layout.specs.Layout.{node_from, node_fields, node_shape};
 ghost use Rattle.layout.specs.Standing.{node_stands};
-ghost use Rattle.layout.specs.PartsBack.{node_laws};
 
 use crate::NODE_WORDS;
 use crate::in_words::{InWords, LAST_MARK};
@@ -16,7 +15,7 @@ impl InWords<NODE_WORDS> for Node {
 
     ghost fields = { node_fields };
 
-    ghost laws = { node_laws };
+    ghost shape = { node_shape };
 
     #[tactic(auto, unfolding(crate::specs::Layout::node_from))]
     fn from_words(words: &[u32; NODE_WORDS]) -> Node {
