@@ -11,8 +11,6 @@ use parts::{Cell, Frame, Tag};
 const LAST_FRAME: u32 = 4;
 
 impl InWords<CELL_WORDS> for Cell {
-    ghost fits = { λ _. Unit {0} };
-
     ghost from = { cell_from };
 
     ghost stands = { cell_stands };

@@ -1,4 +1,4 @@
-// A part of a board that stands in N words.
+// A part of a board that stands in N words, and the words of many such parts, one after the other.
 ghost use Rattle.std.specs.Prelude.{ℕ, ◌*◌, ◌≤◌, Bool, List, ◌≡◌, length};
 ghost use Rattle.std.specs.Simd.{first_chunks};
 ghost use Rattle.layout.specs.InWords.{Shape};
@@ -8,7 +8,7 @@ pub(crate) const LAST_MARK: u32 = 1;
 
 pub(crate) trait InWords<const N: usize>: Copy {
     // What the type says of a part, and reading back rests on.
-    ghost fits: { Self → Type 0 };
+    ghost fits: { Self → Type 0 } = { λ _. Unit {0} };
 
     ghost from: { List ℕ → Self };
 

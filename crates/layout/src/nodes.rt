@@ -7,8 +7,6 @@ use crate::in_words::{InWords, LAST_MARK};
 use parts::{Node, Tag};
 
 impl InWords<NODE_WORDS> for Node {
-    ghost fits = { λ _. Unit {0} };
-
     ghost from = { node_from };
 
     ghost stands = { node_stands };

@@ -1,4 +1,4 @@
-// What a board is made with, in words: n, m and release. There is one of a board, so it is no InWords.
+// What a board is made with, in words: n, m and release. A board has one, so no generic function needs it in words.
 ghost use Rattle.std.specs.Prelude.{◌≡◌};
 ghost use Rattle.layout.specs.Layout.{release_of, release_number, setup_from, setup_fields};
 ghost use Rattle.layout.specs.Standing.{release_stands};
