@@ -14,7 +14,7 @@ use Rattle.parts.specs.Finite.{one}
 use Rattle.parts.specs.Parts.{cell_of}
 use Rattle.parts.proofs.FiniteLaws.{and_left, and_right}
 use Rattle.layout.proofs.Rows.{PartLaws}
-use Rattle.layout.specs.Layout.{Byte, word, node_words, console_words, cell_words, tag_of, release_of, node_from, state_of, console_from, frame_of, cell_from, release_number, node_fields, node_shape, state_number, console_fields, console_shape, frame_number, frame_tag, frame_value, cell_fields, cell_shape}
+use Rattle.layout.specs.Layout.{Byte, word, node_words, console_words, cell_words, tag_of, release_of, node_from, state_of, console_from, frame_of, cell_from, release_number, node_fields, node_wide, state_number, console_fields, console_wide, frame_number, frame_tag, frame_value, cell_fields, cell_wide}
 use Rattle.layout.specs.Standing.{last_state, last_frame, last_set, last_mark, release_stands, node_stands, console_stands, frame_stands, cell_stands}
 
 -- ---- marks and releases
@@ -69,7 +69,7 @@ node_again u long h = ext_get_or 0 (node_fields (node_from u)) u (sym long) fiel
 pub node_laws : PartLaws node_words (λ _. Unit {0}) node_from node_stands node_fields
 unfolding node_fields node_from node_stands
 node_laws = record {
-  shape = node_shape;
+  wide = node_wide;
   back = λ x _. rw (flag_back x.up);
   standing = λ x _. flag_stands x.up;
   again = node_again;
@@ -128,7 +128,7 @@ console_again u long h = ext_get_or 0 (console_fields (console_from u)) u (sym l
 pub console_laws : PartLaws console_words Byte console_from console_stands console_fields
 unfolding console_fields console_from console_stands
 console_laws = record {
-  shape = console_shape;
+  wide = console_wide;
   back = λ x small. rw (state_back x.state, set_back x.answered small, flag_back x.alike);
   standing = λ x small. rw (state_stands x.state, le-leb x.answered last_set (omega arith), flag_stands x.alike);
   again = console_again;
@@ -183,7 +183,7 @@ cell_again u long h = frame_again (word u 0) (word u 1) (word u 2) (word u 3) h 
 pub cell_laws : PartLaws cell_words (λ _. Unit {0}) cell_from cell_stands cell_fields
 unfolding cell_fields cell_from cell_stands
 cell_laws = record {
-  shape = cell_shape;
+  wide = cell_wide;
   back = λ x _. rw (frame_back x.frame);
   standing = λ x _. frame_standing x.frame;
   again = cell_again;

@@ -8,7 +8,7 @@ use borrow.Author.Tests.{le-leb}
 use Rattle.parts.specs.Limits.{max_nodes, max_consoles, max_cells}
 use Rattle.board.specs.declared.Board.{Board}
 use Rattle.layout.specs.InWords.{all_from, all_stand}
-use Rattle.layout.specs.Layout.{Typed, board_words, setup_words, word, node_words, console_words, cell_words, node_offset, console_offset, cell_offset, setup_from, node_from, console_from, cell_from, board_in, setup_fields, node_fields, node_shape, console_shape, cell_shape, console_fields, cell_fields, board_fields, encoded}
+use Rattle.layout.specs.Layout.{Typed, board_words, setup_words, word, node_words, console_words, cell_words, node_offset, console_offset, cell_offset, setup_from, node_from, console_from, cell_from, board_in, setup_fields, node_fields, node_wide, console_wide, cell_wide, console_fields, cell_fields, board_fields, encoded}
 use Rattle.layout.specs.Standing.{release_stands, node_stands, console_stands, cell_stands, parts_stand, stands, decoded}
 use Rattle.layout.proofs.PartsBack.{release_back, release_standing, node_laws, console_laws, cell_laws}
 use Rattle.layout.specs.Claims.{ReadBack}
@@ -32,13 +32,13 @@ module _ (w : List ℕ) (b : Board) (h : board_words ≤ length w) (t : Typed b)
   rest = drop board_words w
 
   nodes_long : length nodes ≡ max_nodes * node_words
-  nodes_long = fields_long node_shape b.nodes ∙ ap (λ n. n * node_words) t.nodes_long
+  nodes_long = fields_long node_fields node_wide b.nodes ∙ ap (λ n. n * node_words) t.nodes_long
 
   consoles_long : length consoles ≡ max_consoles * console_words
-  consoles_long = fields_long console_shape b.consoles ∙ ap (λ n. n * console_words) t.consoles_long
+  consoles_long = fields_long console_fields console_wide b.consoles ∙ ap (λ n. n * console_words) t.consoles_long
 
   cells_long : length cells ≡ max_cells * cell_words
-  cells_long = fields_long cell_shape b.cells ∙ ap (λ n. n * cell_words) t.cells_long
+  cells_long = fields_long cell_fields cell_wide b.cells ∙ ap (λ n. n * cell_words) t.cells_long
 
   setup_long : length setup ≡ setup_words
   unfolding setup_fields

@@ -7,7 +7,7 @@ use Rattle.std.proofs.lemmas.List.Elements.{All-head, All-tail}
 use Rattle.std.specs.List.{All, flat_map, list_all}
 use Rattle.std.specs.Simd.{first_chunks}
 use Rattle.parts.proofs.FiniteLaws.{and_left, and_right}
-use Rattle.layout.specs.InWords.{Shape, all_from, all_stand}
+use Rattle.layout.specs.InWords.{all_from, all_stand}
 
 -- ---- the words of k parts, of s words each
 
@@ -27,6 +27,15 @@ chunks_within s (suc k) m w l =
     let rest : m ≡ s + (m - s) = omega arith in
     let dropped : drop s (take m w) ≡ take (m - s) (drop s w) = ap (λ n. drop s (take n w)) rest ∙ drop-take s (m - s) w in
     rw (take-take s m w (omega arith), dropped, chunks_within s k (m - s) (drop s w) (omega arith))
+
+-- what was read from each of the words, and asked of each
+pub read_from : {A : Type 0} (from : List ℕ → A) (s k : ℕ) (w : List ℕ) (each : List (List ℕ)) (xs : List A) → xs ≡ map from each → each ≡ first_chunks s k w → xs ≡ all_from from s k w
+unfolding all_from
+read_from from s k w each xs read e = read ∙ ap (map from) e
+
+pub asked_of : (stands : List ℕ → Bool) (s k : ℕ) (w : List ℕ) (each : List (List ℕ)) (ok : Bool) → ok ≡ list_all stands each → each ≡ first_chunks s k w → ok ≡ all_stand stands s k w
+unfolding all_stand
+asked_of stands s k w each ok asked e = asked ∙ ap (list_all stands) e
 
 pub from_within : {A : Type 0} (from : List ℕ → A) (s k m : ℕ) (w : List ℕ) → k * s ≤ m → all_from from s k (take m w) ≡ all_from from s k w
 unfolding all_from
@@ -51,10 +60,10 @@ sets_more u w p i l =
 
 -- ---- parts of so many fields
 
-module _ {A : Type 0} {s : ℕ} {fields : A → List ℕ} (shape : Shape s fields) where
+module _ {A : Type 0} {s : ℕ} (fields : A → List ℕ) (wide : (x : A) → length (fields x) ≡ s) where
   pub fields_long : (xs : List A) → length (flat_map fields xs) ≡ length xs * s
   fields_long [] = omega arith
-  fields_long (x ∷ xs) = length-append (fields x) (flat_map fields xs) ∙ omega (arith, shape.wide x, fields_long xs)
+  fields_long (x ∷ xs) = length-append (fields x) (flat_map fields xs) ∙ omega (arith, wide x, fields_long xs)
 
   -- one part more is written
   pub one_more : (xs : List A) (i : ℕ) (d : A) (w : List ℕ) (p : ℕ) → i < length xs
@@ -68,17 +77,17 @@ module _ {A : Type 0} {s : ℕ} {fields : A → List ℕ} (shape : Shape s field
 
   -- the words of a part, and what comes after them
   first_words : (x : A) (xs : List A) (r : List ℕ) → take s (flat_map fields (x ∷ xs) ++ r) ≡ fields x
-  first_words x xs r = ap (take s) (append_assoc (fields x) (flat_map fields xs) r) ∙ take_at (fields x) (flat_map fields xs ++ r) s (shape.wide x)
+  first_words x xs r = ap (take s) (append_assoc (fields x) (flat_map fields xs) r) ∙ take_at (fields x) (flat_map fields xs ++ r) s (wide x)
 
   other_words : (x : A) (xs : List A) (r : List ℕ) → drop s (flat_map fields (x ∷ xs) ++ r) ≡ flat_map fields xs ++ r
-  other_words x xs r = ap (drop s) (append_assoc (fields x) (flat_map fields xs) r) ∙ drop_at (fields x) (flat_map fields xs ++ r) s (shape.wide x)
+  other_words x xs r = ap (drop s) (append_assoc (fields x) (flat_map fields xs) r) ∙ drop_at (fields x) (flat_map fields xs ++ r) s (wide x)
 
 -- ---- parts with their laws
 
 -- what reading back rests on, of a part of s words: what was written is read again and stands for a part, and what
 -- stands for a part is what that part is written as. Of a part is known what its type says (Fits)
 pub record PartLaws {A : Type 0} (s : ℕ) (Fits : A → Type 0) (from : List ℕ → A) (stands : List ℕ → Bool) (fields : A → List ℕ) : Type 0 where
-  pub shape : Shape s fields
+  pub wide : (x : A) → length (fields x) ≡ s
   pub back : (x : A) → Fits x → from (fields x) ≡ x
   pub standing : (x : A) → Fits x → stands (fields x) ≡ true
   pub again : (u : List ℕ) → length u ≡ s → stands u ≡ true → fields (from u) ≡ u
@@ -88,13 +97,13 @@ module _ {A : Type 0} {s : ℕ} {Fits : A → Type 0} {from : List ℕ → A} {s
   pub all_back : (xs : List A) (r : List ℕ) → All Fits xs → all_from from s (length xs) (flat_map fields xs ++ r) ≡ xs
   unfolding all_from
   all_back [] r h = refl
-  all_back (x ∷ xs) r h = rw (first_words laws.shape x xs r, other_words laws.shape x xs r, laws.back x (All-head Fits x xs h), all_back xs r (All-tail Fits x xs h))
+  all_back (x ∷ xs) r h = rw (first_words fields laws.wide x xs r, other_words fields laws.wide x xs r, laws.back x (All-head Fits x xs h), all_back xs r (All-tail Fits x xs h))
 
   -- and stand
   pub all_standing : (xs : List A) (r : List ℕ) → All Fits xs → all_stand stands s (length xs) (flat_map fields xs ++ r) ≡ true
   unfolding all_stand
   all_standing [] r h = refl
-  all_standing (x ∷ xs) r h = rw (first_words laws.shape x xs r, other_words laws.shape x xs r, laws.standing x (All-head Fits x xs h)) (all_standing xs r (All-tail Fits x xs h))
+  all_standing (x ∷ xs) r h = rw (first_words fields laws.wide x xs r, other_words fields laws.wide x xs r, laws.standing x (All-head Fits x xs h)) (all_standing xs r (All-tail Fits x xs h))
 
   -- and those that stand were written
   pub all_again : (k : ℕ) (w : List ℕ) → k * s ≤ length w → all_stand stands s k w ≡ true → flat_map fields (all_from from s k w) ≡ take (k * s) w

@@ -2,7 +2,6 @@
 -- from them, and how it is written into them.
 use Rattle.std.specs.Prelude.{ℕ, zero, suc, ◌+◌, ◌*◌, ◌%◌, ◌<◌, cond, not, List, [], ◌∷◌, ◌++◌, ◌≡◌, refl, eqb, length, get_or, drop}
 use Rattle.std.specs.List.{All, flat_map}
-use Rattle.std.proofs.Common.{arith}
 use Rattle.std.proofs.lemmas.List.Edits.{sets}
 use Rattle.parts.specs.declared.Release.{Release}
 use Rattle.parts.specs.declared.Release.TheVariants.{One, Two}
@@ -22,7 +21,7 @@ use Rattle.parts.specs.Limits.{max_nodes, max_consoles, max_cells}
 use Rattle.parts.specs.Tags.{zero_tag}
 use Rattle.parts.specs.Parts.{cell_of}
 use Rattle.board.specs.declared.Board.{Board}
-use Rattle.layout.specs.InWords.{Shape, all_from}
+use Rattle.layout.specs.InWords.{all_from}
 
 -- ---- how many words each part has, and where it stands
 
@@ -166,19 +165,19 @@ board_fields b = setup_fields b.setup ++ flat_map node_fields b.nodes ++ flat_ma
 unfoldable pub encoded : List ℕ → Board → List ℕ
 encoded w b = sets w 0 (board_fields b)
 
--- ---- the shape of each kind of part
+-- ---- each kind has as many fields as words
 
-pub node_shape : Shape node_words node_fields
+pub node_wide : (x : Node) → length (node_fields x) ≡ node_words
 unfolding node_fields
-node_shape = record { some = omega arith; few = omega arith; wide = λ x. refl }
+node_wide x = refl
 
-pub console_shape : Shape console_words console_fields
+pub console_wide : (x : Console) → length (console_fields x) ≡ console_words
 unfolding console_fields
-console_shape = record { some = omega arith; few = omega arith; wide = λ x. refl }
+console_wide x = refl
 
-pub cell_shape : Shape cell_words cell_fields
+pub cell_wide : (x : Cell) → length (cell_fields x) ≡ cell_words
 unfolding cell_fields
-cell_shape = record { some = omega arith; few = omega arith; wide = λ x. refl }
+cell_wide x = refl
 
 -- ---- what a board's type says, and reading back rests on
 

@@ -1,6 +1,6 @@
 // A cell in words: its frame's number, and the frame's tag and value, or zeros.
 ghost use Rattle.std.specs.Prelude.{◌≡◌};
-ghost use Rattle.layout.specs.Layout.{frame_of, frame_number, frame_tag, frame_value, cell_from, cell_fields, cell_shape};
+ghost use Rattle.layout.specs.Layout.{frame_of, frame_number, frame_tag, frame_value, cell_from, cell_fields, cell_wide};
 ghost use Rattle.layout.specs.Standing.{cell_stands};
 
 use crate::CELL_WORDS;
@@ -17,7 +17,7 @@ impl InWords<CELL_WORDS> for Cell {
 
     ghost fields = { cell_fields };
 
-    ghost shape = { cell_shape };
+    ghost wide = { cell_wide };
 
     #[tactic(auto, unfolding(crate::specs::Layout::cell_from))]
     fn from_words(words: &[u32; CELL_WORDS]) -> Cell {

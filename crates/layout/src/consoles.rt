@@ -1,6 +1,6 @@
 // A console in words: state, wanted, answered, ts and console of the best tag, value and mark.
 ghost use Rattle.std.specs.Prelude.{◌≡◌};
-ghost use Rattle.layout.specs.Layout.{state_of, state_number, console_from, console_fields, console_shape, Byte};
+ghost use Rattle.layout.specs.Layout.{state_of, state_number, console_from, console_fields, console_wide, Byte};
 ghost use Rattle.layout.specs.Standing.{console_stands};
 
 use crate::CONSOLE_WORDS;
@@ -21,7 +21,7 @@ impl InWords<CONSOLE_WORDS> for Console {
 
     ghost fields = { console_fields };
 
-    ghost shape = { console_shape };
+    ghost wide = { console_wide };
 
     #[tactic(auto, unfolding(crate::specs::Layout::console_from))]
     fn from_words(words: &[u32; CONSOLE_WORDS]) -> Console {

@@ -1,7 +1,6 @@
 // A part of a board that stands in N words, and the words of many such parts, one after the other.
-ghost use Rattle.std.specs.Prelude.{ℕ, ◌*◌, ◌≤◌, Bool, List, ◌≡◌, length};
+ghost use Rattle.std.specs.Prelude.{ℕ, ◌*◌, ◌^◌, ◌<◌, ◌≤◌, Bool, List, ◌≡◌, length};
 ghost use Rattle.std.specs.Simd.{first_chunks};
-ghost use Rattle.layout.specs.InWords.{Shape};
 
 // The last number of a mark, that is of a bool.
 pub(crate) const LAST_MARK: u32 = 1;
@@ -29,14 +28,14 @@ pub(crate) trait InWords<const N: usize>: Copy {
         ensures typed { fits self };
 
     // Reading back rests on more (PartLaws in proofs/Rows.antt), which proofs/PartsBack.antt has of each kind.
-    ghost shape: { Shape N fields };
+    ghost wide: { (x : Self) → length (fields x) ≡ N };
 }
 
 // The words of each of the first K parts.
-pub(crate) fn words_of_each<T: InWords<N>, const N: usize, const K: usize>(w: &[u32]) -> &[[u32; N]]
-    requires { K * N ≤ length w.now }
-    ensures value { result.now ≡ first_chunks N K w.now }
-    ensures len { length result.now ≡ K }
+pub(crate) fn words_of_each<const N: usize, const K: usize>(w: &[u32]) -> &[[u32; N]; K]
+    requires some { (0 < N) × (N < 2 ^ 32) }
+    requires enough { K * N ≤ length w.now }
+    ensures { result.now ≡ first_chunks N K w.now }
 {
-    &w.as_chunks::<N>().0[..K]
+    w.as_chunks::<N>().0.first_chunk::<K>().unwrap()
 }

@@ -1,5 +1,5 @@
 // A node in words: up, ts, console and value.
-ghost use Rattle.layout.specs.Layout.{node_from, node_fields, node_shape};
+ghost use Rattle.layout.specs.Layout.{node_from, node_fields, node_wide};
 ghost use Rattle.layout.specs.Standing.{node_stands};
 
 use crate::NODE_WORDS;
@@ -13,7 +13,7 @@ impl InWords<NODE_WORDS> for Node {
 
     ghost fields = { node_fields };
 
-    ghost shape = { node_shape };
+    ghost wide = { node_wide };
 
     #[tactic(auto, unfolding(crate::specs::Layout::node_from))]
     fn from_words(words: &[u32; NODE_WORDS]) -> Node {

@@ -1,6 +1,5 @@
 // Reading a board from words. Any number is read as something; decode refuses what stands for no board.
-ghost use Rattle.std.specs.Prelude.{◌≡◌, ◌*◌, ◌≤◌, length};
-ghost use Rattle.layout.specs.InWords.{all_from};
+ghost use Rattle.std.specs.Prelude.{◌≡◌, map};
 ghost use Rattle.layout.specs.Layout.{board_in};
 ghost use Rattle.layout.specs.Standing.{decoded};
 
@@ -10,12 +9,13 @@ use crate::standing::parts_stand;
 use crate::{BOARD_WORDS, CELLS_AT, CONSOLES_AT, NODES_AT};
 use board::Board;
 
-// Reads the first K parts in the words over those that are there.
-fn read_parts<T: InWords<N>, const N: usize, const K: usize>(parts: &mut [T; K], w: &[u32])
-    requires { K * N ≤ length w.now }
-    ensures { parts.new ≡ all_from T.from N K w.now }
+// Reads parts, each from its words, over those that are there.
+fn read_parts<T: InWords<N>, const N: usize, const K: usize>(
+    parts: &mut [T; K],
+    each: &[[u32; N]; K],
+)
+    ensures { parts.new ≡ map T.from each.now }
 {
-    let each = words_of_each::<T, N, K>(w);
     for (k, words) in each.iter().enumerate() {
         parts[k] = T::from_words(words);
     }
@@ -26,9 +26,9 @@ fn read_board(board: &mut Board, w: &[u32; BOARD_WORDS])
     ensures { board.new ≡ board_in w.now }
 {
     board.setup = setup_from(w);
-    read_parts(&mut board.nodes, &w[NODES_AT..]);
-    read_parts(&mut board.consoles, &w[CONSOLES_AT..]);
-    read_parts(&mut board.cells, &w[CELLS_AT..]);
+    read_parts(&mut board.nodes, words_of_each(&w[NODES_AT..]));
+    read_parts(&mut board.consoles, words_of_each(&w[CONSOLES_AT..]));
+    read_parts(&mut board.cells, words_of_each(&w[CELLS_AT..]));
 }
 
 // The board in the first words. Words that stand for no board, too few of them too, are read as one that is not well

@@ -1,6 +1,6 @@
 // Which words stand for a board: those that some board is written as.
-ghost use Rattle.std.specs.Prelude.{◌≡◌, ◌*◌, ◌≤◌, length};
-ghost use Rattle.layout.specs.InWords.{all_stand};
+ghost use Rattle.std.specs.Prelude.{◌≡◌};
+ghost use Rattle.std.specs.List.{list_all};
 ghost use Rattle.layout.specs.Standing.{parts_stand};
 
 use crate::in_words::{InWords, words_of_each};
@@ -8,12 +8,11 @@ use crate::setups::release_stands;
 use crate::{BOARD_WORDS, CELL_WORDS, CELLS_AT, CONSOLE_WORDS, CONSOLES_AT, NODE_WORDS, NODES_AT};
 use parts::{CELLS, CONSOLES, Cell, Console, NODES, Node};
 
-// Whether the words of each of the first K parts stand for one.
-fn all_stand<T: InWords<N>, const N: usize, const K: usize>(w: &[u32]) -> bool
-    requires { K * N ≤ length w.now }
-    ensures { result ≡ all_stand T.stands N K w.now }
+// Whether each of these words stands for a part.
+fn all_stand<T: InWords<N>, const N: usize, const K: usize>(each: &[[u32; N]; K]) -> bool
+    ensures { result ≡ list_all T.stands each.now }
 {
-    words_of_each::<T, N, K>(w).iter().all(
+    each.iter().all(
         |words| -> bool
             ensures { result ≡ T.stands words.now }
         { T::stand(words) },
@@ -26,7 +25,7 @@ pub(crate) fn parts_stand(w: &[u32; BOARD_WORDS]) -> bool
     ensures { result ≡ parts_stand w.now }
 {
     release_stands(w[2])
-        & all_stand::<Node, NODE_WORDS, NODES>(&w[NODES_AT..])
-        & all_stand::<Console, CONSOLE_WORDS, CONSOLES>(&w[CONSOLES_AT..])
-        & all_stand::<Cell, CELL_WORDS, CELLS>(&w[CELLS_AT..])
+        & all_stand::<Node, NODE_WORDS, NODES>(words_of_each(&w[NODES_AT..]))
+        & all_stand::<Console, CONSOLE_WORDS, CONSOLES>(words_of_each(&w[CONSOLES_AT..]))
+        & all_stand::<Cell, CELL_WORDS, CELLS>(words_of_each(&w[CELLS_AT..]))
 }

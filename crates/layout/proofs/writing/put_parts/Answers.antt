@@ -16,5 +16,5 @@ loop-part-preserved g c =
     let room : (at.part-index + 1) * g.row.N ≤ g.row.K * g.row.N = mul-le-mul_right g.row.N (omega arith) in
     let put : c.put_words.new.w ≡ sets at.w at.at c.to_words.result = c.put_words.ensures.0 (omega (arith, next, room, at.invariant.2, c.requires)) in
     let long : length c.put_words.new.w ≡ length c.args.w.now = ap length put ∙ length-sets at.w at.at c.to_words.result ∙ at.invariant.2 in
-    let more = one_more g.met.T.InWords.shape xs at.part-index c.part-item.result c.args.w.now c.args.p (omega arith) in
+    let more = one_more m.fields g.met.T.InWords.wide xs at.part-index c.part-item.result c.args.w.now c.args.p (omega arith) in
     (omega arith, next, long, put ∙ rw (at.invariant.1, at.invariant.3, c.to_words.ensures.value) more, All-more m.fits xs at.part-index c.part-item.result (omega arith) at.invariant.4 c.to_words.ensures.typed)
