@@ -1,9 +1,8 @@
--- Laws of reading and writing one part more (LayoutLaws), of words that stand for a board (StandingLaws); parts stored
--- in words and read again (Stored, PartsBack); and the claims.
-pub mod LayoutLaws
-pub mod StandingLaws
-pub mod Stored
+-- Laws of parts one after the other (Rows), of each part (PartsBack), of words that stand for a board (StandingLaws); and
+-- the claims.
+pub mod Rows
 pub mod PartsBack
+pub mod StandingLaws
 pub mod RoundTrip
 pub mod WrittenBack
 pub mod Damaged

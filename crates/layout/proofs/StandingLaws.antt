@@ -1,40 +1,93 @@
--- What words that stand for a board give: they are enough, and each part stands.
-use Prim.Native.Nat.{ℕ, ◌≤◌}
-use mathlib.Core.Bool.{true, ◌&&◌}
-use mathlib.Core.List.{List}
-use mathlib.Core.Path.{◌≡◌}
-use borrow.Author.Tests.{leb-true}
-use lib.Dec.{leb}
-use lib.ListN.{length}
+-- What words that stand for a board give, and that it is the first words that count.
+use Rattle.std.proofs.Common.{ℕ, ◌≤◌, ◌<◌, Bool, true, false, ◌&&◌, List, length, take, drop, leb, ◌≡◌, refl, sym, arith}
+use Rattle.std.proofs.lemmas.List.{drop-take, get_or-take}
+use borrow.Author.Tests.{leb-true, le-leb, lt-leb}
 use Rattle.parts.proofs.FiniteLaws.{and_left, and_right}
-use Rattle.layout.specs.Layout.{board_words, word}
-use Rattle.layout.specs.Standing.{release_stands, nodes_stand, consoles_stand, cells_stand, parts_stand, stands}
+use Rattle.layout.specs.InWords.{all_stand}
+use Rattle.layout.specs.Layout.{board_words, word, node_words, console_words, cell_words, node_offset, console_offset, cell_offset, node_from, console_from, cell_from, setup_from, board_in}
+use Rattle.layout.specs.Standing.{release_stands, node_stands, console_stands, cell_stands, parts_stand, stands, decoded}
+use Rattle.board.specs.Boards.{no_board}
+use Rattle.parts.specs.Limits.{max_nodes, max_consoles, max_cells}
+use Rattle.layout.proofs.Rows.{from_within, stand_within}
 
+and_none : (x : Bool) → (x && false) ≡ false
+and_none true = refl
+and_none false = refl
+
+module _ (w : List ℕ) where
+  -- of words the first ones are read as a board
+  board_first : board_in (take board_words w) ≡ board_in w
+  unfolding board_in setup_from
+  board_first = rw (
+    get_or-take board_words w 0 0 (omega arith),
+    get_or-take board_words w 1 0 (omega arith),
+    get_or-take board_words w 2 0 (omega arith),
+    drop-take (node_offset 0) 236 w,
+    from_within node_from node_words max_nodes 236 (drop (node_offset 0) w) (omega arith),
+    drop-take (console_offset 0) 216 w,
+    from_within console_from console_words max_consoles 216 (drop (console_offset 0) w) (omega arith),
+    drop-take (cell_offset 0) 160 w,
+    from_within cell_from cell_words max_cells 160 (drop (cell_offset 0) w) (omega arith),
+  )
+
+  parts_first : parts_stand (take board_words w) ≡ parts_stand w
+  unfolding parts_stand
+  parts_first = rw (
+    get_or-take board_words w 2 0 (omega arith),
+    drop-take (node_offset 0) 236 w,
+    stand_within node_stands node_words max_nodes 236 (drop (node_offset 0) w) (omega arith),
+    drop-take (console_offset 0) 216 w,
+    stand_within console_stands console_words max_consoles 216 (drop (console_offset 0) w) (omega arith),
+    drop-take (cell_offset 0) 160 w,
+    stand_within cell_stands cell_words max_cells 160 (drop (cell_offset 0) w) (omega arith),
+  )
+
+  -- so it is decoded from them, if they are enough and its parts stand in them
+  pub first_decoded : (u : List ℕ) → board_words ≤ length w → u ≡ take board_words w → parts_stand u ≡ true → board_in u ≡ decoded w
+  unfolding decoded stands
+  first_decoded u l e h = rw (le-leb board_words (length w) l, sym parts_first, sym e, h, e) board_first
+
+  pub first_damaged : (u : List ℕ) → u ≡ take board_words w → parts_stand u ≡ false → no_board ≡ decoded w
+  unfolding decoded stands
+  first_damaged u e h = rw (sym parts_first, sym e, h, and_none (leb board_words (length w)))
+
+  pub too_few : length w < board_words → no_board ≡ decoded w
+  unfolding decoded stands
+  too_few l = rw (lt-leb board_words (length w) l)
+
+-- what words that stand for a board give: they are enough, and each part stands
 module _ (w : List ℕ) (h : stands w ≡ true) where
-  before_parts : (leb board_words (length w) && release_stands (word w 2)) ≡ true
-  unfolding stands
-  before_parts = and_left (leb board_words (length w) && release_stands (word w 2)) (parts_stand w) h
-
   pub standing_long : board_words ≤ length w
-  standing_long = leb-true board_words (length w) (and_left (leb board_words (length w)) (release_stands (word w 2)) before_parts)
+  unfolding stands
+  standing_long = leb-true board_words (length w) (and_left (leb board_words (length w)) (parts_stand w) h)
+
+  abbrev nodes : Bool
+  nodes = all_stand node_stands node_words max_nodes (drop (node_offset 0) w)
+
+  abbrev consoles : Bool
+  consoles = all_stand console_stands console_words max_consoles (drop (console_offset 0) w)
+
+  abbrev cells : Bool
+  cells = all_stand cell_stands cell_words max_cells (drop (cell_offset 0) w)
+
+  parts : (release_stands (word w 2) && nodes && consoles && cells) ≡ true
+  unfolding stands parts_stand
+  parts = and_right (leb board_words (length w)) (parts_stand w) h
+
+  before_cells : (release_stands (word w 2) && nodes && consoles) ≡ true
+  before_cells = and_left (release_stands (word w 2) && nodes && consoles) cells parts
+
+  before_consoles : (release_stands (word w 2) && nodes) ≡ true
+  before_consoles = and_left (release_stands (word w 2) && nodes) consoles before_cells
 
   pub release_standing : release_stands (word w 2) ≡ true
-  release_standing = and_right (leb board_words (length w)) (release_stands (word w 2)) before_parts
+  release_standing = and_left (release_stands (word w 2)) nodes before_consoles
 
-  parts : parts_stand w ≡ true
-  unfolding stands
-  parts = and_right (leb board_words (length w) && release_stands (word w 2)) (parts_stand w) h
+  pub nodes_standing : nodes ≡ true
+  nodes_standing = and_right (release_stands (word w 2)) nodes before_consoles
 
-  before_cells : (nodes_stand w && consoles_stand w) ≡ true
-  unfolding parts_stand
-  before_cells = and_left (nodes_stand w && consoles_stand w) (cells_stand w) parts
+  pub consoles_standing : consoles ≡ true
+  consoles_standing = and_right (release_stands (word w 2) && nodes) consoles before_cells
 
-  pub nodes_standing : nodes_stand w ≡ true
-  nodes_standing = and_left (nodes_stand w) (consoles_stand w) before_cells
-
-  pub consoles_standing : consoles_stand w ≡ true
-  consoles_standing = and_right (nodes_stand w) (consoles_stand w) before_cells
-
-  pub cells_standing : cells_stand w ≡ true
-  unfolding parts_stand
-  cells_standing = and_right (nodes_stand w && consoles_stand w) (cells_stand w) parts
+  pub cells_standing : cells ≡ true
+  cells_standing = and_right (release_stands (word w 2) && nodes && consoles) cells parts

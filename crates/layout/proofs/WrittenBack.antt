@@ -1,54 +1,56 @@
--- Words that stand for a board are those that it is written as: writing a part over itself changes nothing (PartsBack,
--- Stored).
-use Prim.Native.Nat.{ℕ, zero, suc, ◌+◌, ◌<◌}
-use mathlib.Core.Bool.{true}
-use mathlib.Core.List.{List}
-use mathlib.Core.Path.{◌≡◌, refl}
-use native.Mathlib.Omega.{arith}
-use lib.ListN.{get_or, replicate}
-use lib.Seq.{sets}
-use Rattle.parts.specs.declared.Frame.TheVariants.{Nothing}
+-- Words that stand for a board are those that it is written as: each kind's words are written over themselves (Rows).
+use Rattle.std.proofs.Common.{ℕ, zero, suc, ◌*◌, ◌<◌, ◌≤◌, true, List, length, take, drop, ◌≡◌, sym, ◌∙◌, arith}
+use Rattle.std.proofs.lemmas.List.{ext_get_or, get_or-take, length-take-le, length-drop, take-append-drop}
+use Rattle.std.proofs.Math.Seq.{take-add}
+use Rattle.std.proofs.lemmas.List.Edits.{sets-eq}
+use Rattle.std.specs.List.{flat_map}
 use Rattle.parts.specs.Limits.{max_nodes, max_consoles, max_cells}
-use Rattle.parts.specs.Parts.{fresh_node, idle_console, cell_of}
-use Rattle.parts.proofs.FiniteLaws.{every_at}
-use Rattle.layout.specs.Layout.{setup_words, word, node_offset, console_offset, cell_offset, node_from, console_from, cell_from, board_in, setup_fields, node_fields, console_fields, cell_fields, put_nodes, put_consoles, put_cells, encoded}
-use Rattle.layout.specs.Standing.{node_stands, console_stands, cell_stands, nodes_stand, consoles_stand, cells_stand, stands, decoded}
+use Rattle.layout.specs.Layout.{setup_words, board_words, word, node_words, console_words, cell_words, node_offset, console_offset, cell_offset, setup_from, board_in, setup_fields, node_fields, console_fields, cell_fields, board_fields, encoded}
+use Rattle.layout.specs.Standing.{stands, decoded}
+use Rattle.layout.proofs.PartsBack.{release_again, node_laws, console_laws, cell_laws}
 use Rattle.layout.specs.Claims.{WrittenBack}
-use Rattle.layout.proofs.StandingLaws.{release_standing, nodes_standing, consoles_standing, cells_standing}
-use Rattle.layout.proofs.Stored.{stored_again, all_again, from_at}
-use Rattle.layout.proofs.PartsBack.{release_again, node_wide, node_again, console_wide, console_again, cell_wide, cell_again}
+use Rattle.layout.proofs.Rows.{all_again}
+use Rattle.layout.proofs.StandingLaws.{standing_long, release_standing, nodes_standing, consoles_standing, cells_standing}
 
 module _ (w : List ℕ) (h : stands w ≡ true) where
-  -- each part is written over itself
+  long : board_words ≤ length w
+  long = standing_long w h
 
-  setup_again : sets w 0 (setup_fields (board_in w).setup) ≡ w
-  unfolding setup_fields board_in
-  setup_again = stored_again (setup_fields (board_in w).setup) w 0 fields
+  -- ---- each kind's fields are its words
+
+  setup_again : setup_fields (board_in w).setup ≡ take setup_words w
+  unfolding setup_fields setup_from board_in
+  setup_again = ext_get_or 0 (setup_fields (setup_from w)) (take setup_words w) (sym (length-take-le setup_words w (omega (arith, long)))) fields
     where
-      fields : (k : ℕ) → k < setup_words → get_or (setup_fields (board_in w).setup) k 0 ≡ word w (0 + k)
-      fields zero l = refl
-      fields (suc zero) l = refl
-      fields (suc (suc zero)) l = release_again (word w 2) (release_standing w h)
+      fields : (k : ℕ) → k < setup_words → word (setup_fields (setup_from w)) k ≡ word (take setup_words w) k
+      fields zero l = sym (get_or-take setup_words w 0 0 l)
+      fields (suc zero) l = sym (get_or-take setup_words w 1 0 l)
+      fields (suc (suc zero)) l = release_again (word w 2) (release_standing w h) ∙ sym (get_or-take setup_words w 2 0 l)
       fields (suc (suc (suc k))) l = absurd (omega arith)
 
-  nodes_again : put_nodes (board_in w).nodes max_nodes w ≡ w
-  unfolding board_in nodes_stand
-  nodes_again = all_again node_fields node_wide node_offset (λ k n l. omega arith) fresh_node (board_in w).nodes max_nodes w
-      (λ k l. rw (from_at node_from node_offset fresh_node (replicate max_nodes fresh_node) w max_nodes (omega arith) k l) (node_again w (node_offset k) (every_at (λ k. node_stands w (node_offset k)) max_nodes (nodes_standing w h) k l)))
+  nodes_again : flat_map node_fields (board_in w).nodes ≡ take (max_nodes * node_words) (drop (node_offset 0) w)
+  unfolding board_in
+  nodes_again = all_again node_laws max_nodes (drop (node_offset 0) w) (omega (arith, long, length-drop (node_offset 0) w)) (nodes_standing w h)
 
-  consoles_again : put_consoles (board_in w).consoles max_consoles w ≡ w
-  unfolding board_in consoles_stand
-  consoles_again = all_again console_fields console_wide console_offset (λ k n l. omega arith) idle_console (board_in w).consoles max_consoles w
-      (λ k l. rw (from_at console_from console_offset idle_console (replicate max_consoles idle_console) w max_consoles (omega arith) k l) (console_again w (console_offset k) (every_at (λ c. console_stands w (console_offset c)) max_consoles (consoles_standing w h) k l)))
+  consoles_again : flat_map console_fields (board_in w).consoles ≡ take (max_consoles * console_words) (drop (console_offset 0) w)
+  unfolding board_in
+  consoles_again = all_again console_laws max_consoles (drop (console_offset 0) w) (omega (arith, long, length-drop (console_offset 0) w)) (consoles_standing w h)
 
-  cells_again : put_cells (board_in w).cells max_cells w ≡ w
-  unfolding board_in cells_stand
-  cells_again = all_again cell_fields cell_wide cell_offset (λ k n l. omega arith) (cell_of Nothing) (board_in w).cells max_cells w
-      (λ k l. rw (from_at cell_from cell_offset (cell_of Nothing) (replicate max_cells (cell_of Nothing)) w max_cells (omega arith) k l) (cell_again w (cell_offset k) (every_at (λ i. cell_stands w (cell_offset i)) max_cells (cells_standing w h) k l)))
+  cells_again : flat_map cell_fields (board_in w).cells ≡ take (max_cells * cell_words) (drop (cell_offset 0) w)
+  unfolding board_in
+  cells_again = all_again cell_laws max_cells (drop (cell_offset 0) w) (omega (arith, long, length-drop (cell_offset 0) w)) (cells_standing w h)
+
+  -- ---- so those of the board are the first words
+
+  fields_again : board_fields (board_in w) ≡ take board_words w
+  unfolding board_fields
+  fields_again =
+      rw (setup_again, nodes_again, consoles_again, cells_again)
+      (rw (sym (take-add setup_words (max_nodes * node_words) w), sym (take-add (console_offset 0) (max_consoles * console_words) w), sym (take-add (cell_offset 0) (max_cells * cell_words) w)))
 
   board_again : encoded w (board_in w) ≡ w
   unfolding encoded
-  board_again = rw (setup_again, nodes_again, consoles_again, cells_again)
+  board_again = rw (fields_again, sets-eq (take board_words w) w 0 (omega (arith, long, length-take-le board_words w long)), length-take-le board_words w long) (take-append-drop board_words w)
 
   read_written : encoded w (decoded w) ≡ w
   unfolding decoded

@@ -1,6 +1,7 @@
 -- A board in words of 32 bits: n, m and the release, then so many words for each node, console and cell; how it is read
 -- from them, and how it is written into them.
-use Rattle.std.specs.Prelude.{ℕ, zero, suc, ◌+◌, ◌*◌, ◌%◌, ◌<◌, cond, not, List, [], ◌∷◌, ◌≡◌, eqb, length, get_or, set, replicate}
+use Rattle.std.specs.Prelude.{ℕ, zero, suc, ◌+◌, ◌*◌, ◌%◌, ◌<◌, cond, not, List, [], ◌∷◌, ◌++◌, ◌≡◌, refl, eqb, length, get_or, drop}
+use Rattle.std.specs.List.{All, flat_map}
 use Rattle.std.proofs.lemmas.List.Edits.{sets}
 use Rattle.parts.specs.declared.Release.{Release}
 use Rattle.parts.specs.declared.Release.TheVariants.{One, Two}
@@ -18,8 +19,9 @@ use Rattle.parts.specs.declared.Setup.{Setup}
 use Rattle.parts.specs.Finite.{one}
 use Rattle.parts.specs.Limits.{max_nodes, max_consoles, max_cells}
 use Rattle.parts.specs.Tags.{zero_tag}
-use Rattle.parts.specs.Parts.{fresh_node, idle_console, cell_of}
+use Rattle.parts.specs.Parts.{cell_of}
 use Rattle.board.specs.declared.Board.{Board}
+use Rattle.layout.specs.InWords.{all_from}
 
 -- ---- how many words each part has, and where it stands
 
@@ -52,19 +54,24 @@ board_words = cell_offset max_cells
 abbrev pub word : List ℕ → ℕ → ℕ
 word w i = get_or w i 0
 
--- ---- reading. A number that stands for nothing is read as something all the same; Standing.antt says which words are refused
+-- ---- reading each part from its own words. A number that stands for nothing is read as something all the same;
+-- Standing.antt says which words are refused
 
 -- a release by its number
 unfoldable pub release_of : ℕ → Release
 release_of i = cond (eqb i 2) Two One
+
+-- n, m, release
+unfoldable pub setup_from : List ℕ → Setup
+setup_from u = record { n = word u 0; m = word u 1; release = release_of (word u 2) }
 
 -- a tag from two words
 abbrev pub tag_of : ℕ → ℕ → Tag
 tag_of t c = record { ts = t; console = c }
 
 -- up, ts, console, value
-unfoldable pub node_from : List ℕ → ℕ → Node
-node_from w p = record { up = not (eqb (word w p) 0); tag = tag_of (word w (p + 1)) (word w (p + 2)); value = word w (p + 3) }
+unfoldable pub node_from : List ℕ → Node
+node_from u = record { up = not (eqb (word u 0) 0); tag = tag_of (word u 1) (word u 2); value = word u 3 }
 
 -- a state by its number; the last is down
 unfoldable pub state_of : ℕ → State
@@ -76,8 +83,8 @@ state_of (suc (suc (suc (suc zero)))) = Telling Write
 state_of (suc (suc (suc (suc (suc s))))) = Down
 
 -- state, wanted, answered, best ts, best console, value, alike
-unfoldable pub console_from : List ℕ → ℕ → Console
-console_from w p = record { state = state_of (word w p); wanted = word w (p + 1); answered = word w (p + 2) % 256; best = tag_of (word w (p + 3)) (word w (p + 4)); value = word w (p + 5); alike = not (eqb (word w (p + 6)) 0) }
+unfoldable pub console_from : List ℕ → Console
+console_from u = record { state = state_of (word u 0); wanted = word u 1; answered = word u 2 % 256; best = tag_of (word u 3) (word u 4); value = word u 5; alike = not (eqb (word u 6) 0) }
 
 -- a frame by its number; the last is an ack
 unfoldable pub frame_of : ℕ → Tag → ℕ → Frame
@@ -88,25 +95,20 @@ frame_of (suc (suc (suc zero))) t v = Put t v
 frame_of (suc (suc (suc (suc s)))) t v = Ack
 
 -- frame, ts, console, value
-unfoldable pub cell_from : List ℕ → ℕ → Cell
-cell_from w p = cell_of (frame_of (word w p) (tag_of (word w (p + 1)) (word w (p + 2))) (word w (p + 3)))
-
--- the first k of many parts, each from its offset
-unfoldable pub all_from : {A : Type 0} → (List ℕ → ℕ → A) → (ℕ → ℕ) → List A → ℕ → List ℕ → List A
-all_from from offset xs zero w = xs
-all_from from offset xs (suc k) w = set (all_from from offset xs k w) k (from w (offset k))
+unfoldable pub cell_from : List ℕ → Cell
+cell_from u = cell_of (frame_of (word u 0) (tag_of (word u 1) (word u 2)) (word u 3))
 
 -- the board that the words are read as, whatever stands there
 unfoldable pub board_in : List ℕ → Board
 board_in w =
     record {
-      setup = record { n = word w 0; m = word w 1; release = release_of (word w 2) };
-      nodes = all_from node_from node_offset (replicate max_nodes fresh_node) max_nodes w;
-      consoles = all_from console_from console_offset (replicate max_consoles idle_console) max_consoles w;
-      cells = all_from cell_from cell_offset (replicate max_cells (cell_of Nothing)) max_cells w;
+      setup = setup_from w;
+      nodes = all_from node_from node_words max_nodes (drop (node_offset 0) w);
+      consoles = all_from console_from console_words max_consoles (drop (console_offset 0) w);
+      cells = all_from cell_from cell_words max_cells (drop (cell_offset 0) w);
     }
 
--- ---- writing: the fields of each part, and all of them at their offsets
+-- ---- writing: the fields of each part, and all of them one after the other
 
 unfoldable pub release_number : Release → ℕ
 release_number One = 1
@@ -155,27 +157,27 @@ frame_value Ack = 0
 unfoldable pub cell_fields : Cell → List ℕ
 cell_fields x = frame_number x.frame ∷ (frame_tag x.frame).ts ∷ (frame_tag x.frame).console ∷ frame_value x.frame ∷ []
 
--- the first k of many parts, the fields of each at its offset
-unfoldable pub put_all : {A : Type 0} → (A → List ℕ) → (ℕ → ℕ) → A → List A → ℕ → List ℕ → List ℕ
-put_all fields offset d xs zero w = w
-put_all fields offset d xs (suc k) w = sets (put_all fields offset d xs k w) (offset k) (fields (get_or xs k d))
-
-abbrev pub put_nodes : List Node → ℕ → List ℕ → List ℕ
-put_nodes = put_all node_fields node_offset fresh_node
-
-abbrev pub put_consoles : List Console → ℕ → List ℕ → List ℕ
-put_consoles = put_all console_fields console_offset idle_console
-
-abbrev pub put_cells : List Cell → ℕ → List ℕ → List ℕ
-put_cells = put_all cell_fields cell_offset (cell_of Nothing)
+-- the words of a board
+unfoldable pub board_fields : Board → List ℕ
+board_fields b = setup_fields b.setup ++ flat_map node_fields b.nodes ++ flat_map console_fields b.consoles ++ flat_map cell_fields b.cells
 
 -- the words with the board in the first of them
 unfoldable pub encoded : List ℕ → Board → List ℕ
-encoded w b =
-    put_cells b.cells max_cells
-    (put_consoles b.consoles max_consoles
-    (put_nodes b.nodes max_nodes
-    (sets w 0 (setup_fields b.setup))))
+encoded w b = sets w 0 (board_fields b)
+
+-- ---- each kind has as many fields as words
+
+pub node_wide : (x : Node) → length (node_fields x) ≡ node_words
+unfolding node_fields
+node_wide x = refl
+
+pub console_wide : (x : Console) → length (console_fields x) ≡ console_words
+unfolding console_fields
+console_wide x = refl
+
+pub cell_wide : (x : Cell) → length (cell_fields x) ≡ cell_words
+unfolding cell_fields
+cell_wide x = refl
 
 -- ---- what a board's type says, and reading back rests on
 
@@ -183,13 +185,9 @@ encoded w b =
 abbrev pub Byte : Console → Type 0
 Byte x = x.answered < 256
 
--- so of the first k consoles
-abbrev pub Bytes : List Console → ℕ → Type 0
-Bytes xs k = (c : ℕ) → c < k → Byte (get_or xs c idle_console)
-
 -- the lists of a board have their lengths, and each answered set is a byte
 pub record Typed (b : Board) : Type 0 where
   pub nodes_long : length b.nodes ≡ max_nodes
   pub consoles_long : length b.consoles ≡ max_consoles
   pub cells_long : length b.cells ≡ max_cells
-  pub bytes : Bytes b.consoles max_consoles
+  pub bytes : All Byte b.consoles

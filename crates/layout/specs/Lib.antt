@@ -1,4 +1,6 @@
--- A board in words of 32 bits: where its parts stand, which words stand for a board, and what is claimed of both.
+-- A board in words of 32 bits: parts that stand in so many words each, where those of a board stand, which words stand
+-- for a board, and what is claimed of both.
+pub mod InWords
 pub mod Layout
 pub mod Standing
 pub mod Claims

@@ -1,11 +1,11 @@
 -- Which words stand for a board, and the board that any words are read as: words that no board is written as are read
 -- as one that is not well formed, so that every step but fresh refuses them with 1. No number is read as its nearest.
-use Rattle.std.specs.Prelude.{ℕ, ◌+◌, Bool, cond, ◌&&◌, ◌||◌, List, eqb, leb, length}
-use Rattle.parts.specs.Finite.{every}
+use Rattle.std.specs.Prelude.{ℕ, Bool, cond, ◌&&◌, ◌||◌, List, eqb, leb, length, drop}
 use Rattle.parts.specs.Limits.{max_nodes, max_consoles, max_cells}
 use Rattle.board.specs.declared.Board.{Board}
 use Rattle.board.specs.Boards.{no_board}
-use Rattle.layout.specs.Layout.{board_words, word, node_offset, console_offset, cell_offset, board_in}
+use Rattle.layout.specs.InWords.{all_stand}
+use Rattle.layout.specs.Layout.{board_words, word, node_words, console_words, cell_words, node_offset, console_offset, cell_offset, board_in}
 
 -- the last number of a state, of a frame, of a set and of a mark
 abbrev pub last_state : ℕ
@@ -25,34 +25,30 @@ unfoldable pub release_stands : ℕ → Bool
 release_stands i = eqb i 1 || eqb i 2
 
 -- up is a mark
-unfoldable pub node_stands : List ℕ → ℕ → Bool
-node_stands w p = leb (word w p) last_mark
+unfoldable pub node_stands : List ℕ → Bool
+node_stands u = leb (word u 0) last_mark
 
-unfoldable pub console_stands : List ℕ → ℕ → Bool
-console_stands w p = leb (word w p) last_state && leb (word w (p + 2)) last_set && leb (word w (p + 6)) last_mark
+unfoldable pub console_stands : List ℕ → Bool
+console_stands u = leb (word u 0) last_state && leb (word u 2) last_set && leb (word u 6) last_mark
 
 -- beside a frame without a tag, that is neither reply nor put, all is 0
 unfoldable pub frame_stands : ℕ → ℕ → ℕ → ℕ → Bool
 frame_stands f t c v = leb f last_frame && (eqb f 2 || eqb f 3 || (eqb t 0 && eqb c 0 && eqb v 0))
 
-unfoldable pub cell_stands : List ℕ → ℕ → Bool
-cell_stands w p = frame_stands (word w p) (word w (p + 1)) (word w (p + 2)) (word w (p + 3))
+unfoldable pub cell_stands : List ℕ → Bool
+cell_stands u = frame_stands (word u 0) (word u 1) (word u 2) (word u 3)
 
-unfoldable pub nodes_stand : List ℕ → Bool
-nodes_stand w = every max_nodes (λ k. node_stands w (node_offset k))
-
-unfoldable pub consoles_stand : List ℕ → Bool
-consoles_stand w = every max_consoles (λ c. console_stands w (console_offset c))
-
-unfoldable pub cells_stand : List ℕ → Bool
-cells_stand w = every max_cells (λ i. cell_stands w (cell_offset i))
-
+-- the release and each part stands
 unfoldable pub parts_stand : List ℕ → Bool
-parts_stand w = nodes_stand w && consoles_stand w && cells_stand w
+parts_stand w =
+    release_stands (word w 2)
+    && all_stand node_stands node_words max_nodes (drop (node_offset 0) w)
+    && all_stand console_stands console_words max_consoles (drop (console_offset 0) w)
+    && all_stand cell_stands cell_words max_cells (drop (cell_offset 0) w)
 
 -- the words are enough for a board, and its release and each of its parts stand in them
 unfoldable pub stands : List ℕ → Bool
-stands w = leb board_words (length w) && release_stands (word w 2) && parts_stand w
+stands w = leb board_words (length w) && parts_stand w
 
 -- the board in any words
 unfoldable pub decoded : List ℕ → Board

@@ -3,7 +3,12 @@
 
 use parts::{CELLS, CONSOLES, NODES};
 
+mod cells;
+mod consoles;
+mod in_words;
+mod nodes;
 pub mod reading;
+mod setups;
 mod standing;
 pub mod writing;
 

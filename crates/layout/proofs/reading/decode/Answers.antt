@@ -1,16 +1,15 @@
--- By whether the words stand for a board: those are long enough for one.
-use Rattle.std.proofs.Common.{sym, ◌∙◌}
-use Rattle.layout.proofs.StandingLaws.{standing_long}
-use Rattle.layout.specs.Standing.{decoded}
+-- The board is decoded from the first words (StandingLaws).
+use Rattle.std.proofs.Common.{◌∙◌, sym}
+use Rattle.layout.proofs.StandingLaws.{first_decoded, first_damaged, too_few}
 use Rattle.layout.proofs.reading.decode.Goals as goal
 
-pub returns-then-not-is_standing : goal.returns-then-not-is_standing
-unfolding decoded
-returns-then-not-is_standing c = rw (sym c.is_standing.ensures ∙ c.if-not-is_standing.true) c.none.ensures
+pub returns-in_default : goal.returns-in_default
+returns-in_default c = c.none-board.ensures ∙ too_few c.args.w.now c.in_default.ensures.cases
 
-pub board_from-requires : goal.board_from-requires
-board_from-requires c = standing_long _ (sym c.is_standing.ensures ∙ c.if-not-is_standing.false)
+pub returns-then-parts_stand : goal.returns-then-parts_stand
+returns-then-parts_stand c =
+    let first = c.in-Some.ensures.cases in
+    c.read_board.ensures ∙ first_decoded c.args.w.now c.in-Some.words.now first.enough first.same (sym c.parts_stand.ensures ∙ c.if-parts_stand.true)
 
-pub returns : goal.returns
-unfolding decoded
-returns c = rw (sym c.is_standing.ensures ∙ c.if-not-is_standing.false) c.board_from.ensures
+pub returns-else-parts_stand : goal.returns-else-parts_stand
+returns-else-parts_stand c = c.none-board.ensures ∙ first_damaged c.args.w.now c.in-Some.words.now c.in-Some.ensures.cases.same (sym c.parts_stand.ensures ∙ c.if-parts_stand.false)

@@ -1,0 +1,85 @@
+// A console in words: state, wanted, answered, ts and console of the best tag, value and mark.
+ghost use Rattle.std.specs.Prelude.{◌≡◌};
+ghost use Rattle.layout.specs.Layout.{state_of, state_number, console_from, console_fields, console_wide, Byte};
+ghost use Rattle.layout.specs.Standing.{console_stands};
+
+use crate::CONSOLE_WORDS;
+use crate::in_words::{InWords, LAST_MARK};
+use parts::{Console, Kind, State, Tag};
+
+// The last number of a state and of a set.
+const LAST_STATE: u32 = 5;
+
+const LAST_SET: u32 = 255;
+
+impl InWords<CONSOLE_WORDS> for Console {
+    ghost fits = { Byte };
+
+    ghost from = { console_from };
+
+    ghost stands = { console_stands };
+
+    ghost fields = { console_fields };
+
+    ghost wide = { console_wide };
+
+    #[tactic(auto, unfolding(crate::specs::Layout::console_from))]
+    fn from_words(words: &[u32; CONSOLE_WORDS]) -> Console {
+        let [state, wanted, answered, ts, console, value, alike] = *words;
+        Console {
+            state: state_of(state),
+            wanted,
+            answered: (answered % 256) as u8,
+            best: Tag { ts, console },
+            value,
+            alike: alike != 0,
+        }
+    }
+
+    #[tactic(auto, unfolding(crate::specs::Standing::console_stands))]
+    fn stand(words: &[u32; CONSOLE_WORDS]) -> bool {
+        words[0] <= LAST_STATE && words[2] <= LAST_SET && words[6] <= LAST_MARK
+    }
+
+    #[tactic(auto, unfolding(crate::specs::Layout::console_fields))]
+    fn to_words(self) -> [u32; CONSOLE_WORDS] {
+        [
+            state_number(self.state),
+            self.wanted,
+            u32::from(self.answered),
+            self.best.ts,
+            self.best.console,
+            self.value,
+            u32::from(self.alike),
+        ]
+    }
+}
+
+// Functions and no From: neither a state nor u32 is a type of this crate.
+#[tactic(auto, unfolding(crate::specs::Layout::state_of))]
+fn state_of(number: u32) -> State
+    ensures { result ≡ state_of number }
+{
+    match number {
+        0 => State::Idle,
+        1 => State::Asking(Kind::Read),
+        2 => State::Asking(Kind::Write),
+        3 => State::Telling(Kind::Read),
+        4 => State::Telling(Kind::Write),
+        _ => State::Down,
+    }
+}
+
+#[tactic(auto, unfolding(crate::specs::Layout::state_number))]
+fn state_number(state: State) -> u32
+    ensures { result ≡ state_number state }
+{
+    match state {
+        State::Idle => 0,
+        State::Asking(Kind::Read) => 1,
+        State::Asking(Kind::Write) => 2,
+        State::Telling(Kind::Read) => 3,
+        State::Telling(Kind::Write) => 4,
+        State::Down => 5,
+    }
+}

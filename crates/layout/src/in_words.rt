@@ -1,0 +1,41 @@
+// A part of a board that stands in N words, and the words of many such parts, one after the other.
+ghost use Rattle.std.specs.Prelude.{ℕ, ◌*◌, ◌^◌, ◌<◌, ◌≤◌, Bool, List, ◌≡◌, length};
+ghost use Rattle.std.specs.Simd.{first_chunks};
+
+// The last number of a mark, that is of a bool.
+pub(crate) const LAST_MARK: u32 = 1;
+
+pub(crate) trait InWords<const N: usize>: Copy {
+    // What the type says of a part, and reading back rests on.
+    ghost fits: { Self → Type 0 } = { λ _. Unit {0} };
+
+    ghost from: { List ℕ → Self };
+
+    ghost stands: { List ℕ → Bool };
+
+    ghost fields: { Self → List ℕ };
+
+    // The part in its words. Any number is read as something.
+    fn from_words(words: &[u32; N]) -> Self
+        ensures { result ≡ from words.now };
+
+    // Whether some part is written as these words.
+    fn stand(words: &[u32; N]) -> bool
+        ensures { result ≡ stands words.now };
+
+    fn to_words(self) -> [u32; N]
+        ensures value { result ≡ fields self }
+        ensures typed { fits self };
+
+    // Reading back rests on more (PartLaws in proofs/Rows.antt), which proofs/PartsBack.antt has of each kind.
+    ghost wide: { (x : Self) → length (fields x) ≡ N };
+}
+
+// The words of each of the first K parts.
+pub(crate) fn words_of_each<const N: usize, const K: usize>(w: &[u32]) -> &[[u32; N]; K]
+    requires some { (0 < N) × (N < 2 ^ 32) }
+    requires enough { K * N ≤ length w.now }
+    ensures { result.now ≡ first_chunks N K w.now }
+{
+    w.as_chunks::<N>().0.first_chunk::<K>().unwrap()
+}
