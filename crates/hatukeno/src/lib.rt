@@ -6,7 +6,8 @@ use board::Board;
 mod calls;
 mod lists;
 
-// The board midway through a list of steps, and whether one of them has been accepted.
+// The board midway through a list of steps, and whether one of them has been accepted. No Option: the next step goes on
+// from the board either way.
 #[derive(Clone, Copy)]
 pub struct Midway {
     pub board: Board,
