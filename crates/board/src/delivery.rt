@@ -15,7 +15,7 @@ impl Board {
         self.deliver_known(self.is_well_formed(), c, k)
     }
 
-    // The same for a caller who knows whether the board is well formed.
+    // The same for a caller who knows whether the board is well formed (steps.rt).
     pub fn deliver_known(self, formed: bool, c: ConsoleId, k: NodeId) -> Answer
         ensures { formed ≡ well_formed self → result ≡ deliver self c.0 k.0 }
     {

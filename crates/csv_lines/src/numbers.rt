@@ -1,4 +1,4 @@
-// A field's text as a number. It is not std's `parse`, which takes a sign too.
+// A field's text as a number. It is not std's `parse`, which takes a sign too; by `char::to_digit` the proof did not close.
 ghost use Rattle.std.specs.Prelude.{◌≡◌};
 ghost use Rattle.csv_lines.specs.Reading.{num_of};
 

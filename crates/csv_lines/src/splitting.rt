@@ -1,6 +1,6 @@
 // The lines of an input that comes in parts: the line so far is held in lent memory until its end is there.
-// That memory and how much of it is held are no struct: the memory is lent anew with each part, and the number is the
-// caller's to keep.
+// That memory and how much of it is held are no struct: the functions are public and take any memory and any number, of
+// which a struct's invariant would refuse some.
 ghost use Rattle.std.specs.Prelude.{◌++◌, ◌≡◌, ◌≤◌, min, length, take};
 ghost use Rattle.csv_lines.specs.Splitting.{chop};
 
@@ -10,7 +10,7 @@ use crate::reading::MAX_LINE;
 // be.
 pub const HELD_BYTES: usize = MAX_LINE + 2;
 
-// The lesser of two numbers.
+// The lesser of two numbers: std's `min`, beside which it stays since it is public.
 pub fn least(a: usize, b: usize) -> usize
     ensures { result ≡ min a b }
 {

@@ -1,5 +1,5 @@
 -- The questions of document 01, 'Questions put before each step', and node up's (document 02, Paper 2), each with its refusal,
--- whose number Refusals gives. The steps say which they ask. The refusals of lines and verbs stand there.
+-- whose number Refusals gives. The steps say which they ask. Refusals has those of lines and verbs too.
 use Rattle.std.specs.Prelude.{ℕ, Bool, cond, not, List, [], ◌∷◌, ltb}
 use Rattle.well_formed.specs.Clauses.{nodes_allowed, consoles_allowed}
 use Rattle.decisions.specs.declared.refusals.Refusal.{Refusal}

@@ -16,8 +16,8 @@ fn is_still_alike(x: Console, how: Ordering) -> bool
     x.answered == 0 || x.alike && how.is_eq()
 }
 
-// A reply of node k is taken in: where a byte has room for k, and the tags may be compared. That is no fact of a type: a
-// tag of any board may be handed in, and a well-formed one alone has it.
+// A reply of node k is taken in: where a byte has room for k, and the tags may be compared. Neither is a fact of a type:
+// the node and the tags of any board may be handed in, and a well-formed board alone has them so.
 pub fn hear_reply(x: Console, k: NodeId, t: Tag, v: u32) -> TakenIn
     ensures { k.0 < 8 → x.best.console < max_consoles → t.console < max_consoles → result ≡ takes_in x k.0 t v }
 {

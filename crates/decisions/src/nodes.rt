@@ -13,7 +13,8 @@ pub fn set_up(x: Node, up: bool) -> Node
     Node { up, ..x }
 }
 
-// The node after a put: with the greater tag and its value, where the tags may be compared.
+// The node after a put: with the greater tag and its value, where the tags may be compared. Tag and value come apart, as
+// frames carry them (parts).
 #[tactic(auto, unfolding(crate::specs::Changes::taken))]
 pub fn take_put(x: Node, t: Tag, v: u32) -> Node
     ensures { x.tag.console < max_consoles → t.console < max_consoles → result ≡ taken x t v }

@@ -6,7 +6,8 @@ ghost use Rattle.decisions.specs.Changes.{next_tag, tells};
 
 use parts::{Console, ConsoleId, MAX_TS, Tag};
 
-// The timestamp after ts, where there is one.
+// The timestamp after ts, where there is one. That there is one is no fact of a console's type: question 10 asks it of the
+// console with the reply taken in, just before it turns.
 fn next_ts(ts: u32) -> u32
     ensures { ts < max_ts → result ≡ ts + 1 }
 {

@@ -1,17 +1,18 @@
 -- Laws of the calls.
-use Prim.Native.Nat.{ℕ, ◌≤◌, ◌<◌}
-use mathlib.Core.Bool.{Bool, true, false}
+use Prim.Native.Nat.{ℕ, ◌/◌, ◌≤◌, ◌<◌}
+use mathlib.Core.Bool.{Bool, true, false, cond}
 use mathlib.Core.List.{List}
-use mathlib.Core.Path.{◌≡◌, refl, sym, ◌∙◌}
+use mathlib.Core.Path.{◌≡◌, refl, sym, ap, ◌∙◌}
 use native.Mathlib.Omega.{arith}
-use borrow.Author.Tests.{leb-true, leb-false, le-leb, ne_eqb, eq-eqb}
+use borrow.Author.Tests.{leb-true, leb-false, le-leb, lt-leb, ne_eqb, eq-eqb}
 use lib.Dec.{eqb, leb}
 use Rattle.board.specs.declared.Answer.{Answer}
 use Rattle.layout.specs.Layout.{board_words}
+use Rattle.hatukeno.specs.Lists.{list_short_by}
 use Rattle.hatukeno.specs.Calls.{answer_words, put_answer, kept, returned_by, short_by, code, Called}
 use Rattle.std.specs.Prelude.{Err}
-use Rattle.hatukeno.specs.declared.calls.Short.{Short}
-use Rattle.hatukeno.specs.declared.calls.Short.TheVariants.{Board, Answers, Steps}
+use Rattle.hatukeno.specs.declared.lengths.Short.{Short}
+use Rattle.hatukeno.specs.declared.lengths.Short.TheVariants.{Board, Answers, Steps}
 
 -- ---- lengths
 
@@ -48,6 +49,15 @@ long_answer w s e = go (leb answer_words s) refl e
     go : (t : Bool) → leb answer_words s ≡ t → short_by w s ≡ 0 → answer_words ≤ s
     go true f e = leb-true answer_words s f
     go false f e = absurd (omega (arith, short_answer w s (long_board w s e) (leb-false answer_words s f), e))
+
+-- a call of one step is a list of one
+pub one_step : (w s : ℕ) → list_short_by w 3 s ≡ short_by w s
+unfolding list_short_by short_by
+one_step w s = ap (λ (x : Bool). cond (leb board_words w) (cond x 0 2) 1) (go (leb answer_words s) refl)
+  where
+    go : (t : Bool) → leb answer_words s ≡ t → leb 1 (s / answer_words) ≡ t
+    go true e = le-leb 1 (s / answer_words) (omega (arith, leb-true answer_words s e))
+    go false e = lt-leb 1 (s / answer_words) (omega (arith, leb-false answer_words s e))
 
 -- what is short has a number
 pub short_number : (x : Short) → returned_by (Err x) ≡ 0 → ⊥

@@ -5,8 +5,8 @@ use Rattle.parts.specs.Outcomes.{accepted, outcome_number, outcome_tag, outcome_
 use Rattle.decisions.specs.Refusals.{refusal_number}
 use Rattle.board.specs.declared.Answer.{Answer}
 use Rattle.layout.specs.Layout.{board_words, encoded}
-use Rattle.hatukeno.specs.declared.calls.Short.{Short}
-use Rattle.hatukeno.specs.declared.calls.Short.TheVariants.{Board, Answers, Steps}
+use Rattle.hatukeno.specs.declared.lengths.Short.{Short}
+use Rattle.hatukeno.specs.declared.lengths.Short.TheVariants.{Board, Answers, Steps}
 
 -- the words of an answer
 abbrev pub answer_words : ℕ

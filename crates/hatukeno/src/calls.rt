@@ -1,22 +1,19 @@
 // The calls: each puts one step to the board in the lent words w, and writes the answer into the lent words s and the
 // next board back into w (Called).
-ghost use Rattle.std.specs.Prelude.{◌≡◌, ◌+◌, ◌≤◌, cond, length, Err};
+ghost use Rattle.std.specs.Prelude.{◌≡◌, ◌+◌, ◌≤◌, cond, length};
 ghost use Rattle.parts.specs.declared.Release.TheVariants.{One, Two};
 ghost use Rattle.board.specs.Steps.{setup_of, fresh, begin_read, begin_write, node_down, console_down, node_up};
 ghost use Rattle.board.specs.Deliver.{deliver};
 ghost use Rattle.layout.specs.Layout.{board_words, encoded};
 ghost use Rattle.layout.specs.Standing.{decoded};
-ghost use Rattle.hatukeno.specs.Calls.{answer_words, put_answer, returned_by, short_by, Called};
+ghost use Rattle.hatukeno.specs.Calls.{answer_words, put_answer, Called};
 
+use crate::lengths::{ANSWER_WORDS, STEP_WORDS, fits};
 use board::{Answer, Board};
-use layout::BOARD_WORDS;
 use layout::reading::decode;
 use layout::writing::{encode, put_words};
 use parts::outcomes::compared_number;
 use parts::{ConsoleId, NodeId, Release};
-
-// The words of an answer.
-pub(crate) const ANSWER_WORDS: usize = 6;
 
 // Writes the answer into six words from p on. The caller has seen that they are there.
 #[tactic(auto, unfolding(crate::specs::Calls::put_answer, crate::specs::Calls::answer_fields))]
@@ -46,42 +43,11 @@ pub(crate) fn keep(w: &mut [u32], moved: bool, next: Board)
     }
 }
 
-// Why a call does nothing: there are too few words for a board, or for the answers, or those of a list are not three for
-// each step. The numbers are what the call returns.
-#[derive(Clone, Copy, Debug, PartialEq, Eq)]
-pub(crate) enum Short {
-    Board = 1,
-    Answers = 2,
-    Steps = 3,
-}
-
-impl From<Short> for u32 {
-    ghost from_gives = { λ short number. number ≡ returned_by (Err short) };
-
-    fn from(short: Short) -> u32 {
-        short as u32
-    }
-}
-
-// Whether what is lent to a call is long enough, by its lengths.
-#[tactic(auto, unfolding(crate::specs::Calls::short_by))]
-fn fits(w: usize, s: usize) -> Result<(), Short>
-    ensures { returned_by result ≡ short_by w s }
-{
-    if w < BOARD_WORDS {
-        return Err(Short::Board);
-    }
-    if s < ANSWER_WORDS {
-        return Err(Short::Answers);
-    }
-    Ok(())
-}
-
 // Writes the answer a of a step, and the next board unless the step was refused; nothing if memory is short.
 fn respond(w: &mut [u32], s: &mut [u32], a: Answer) -> u32
     ensures { Called a w.old s.old result w.new s.new }
 {
-    match fits(w.len(), s.len()) {
+    match fits(w.len(), STEP_WORDS, s.len()) {
         Err(short) => u32::from(short),
         Ok(()) => {
             put_answer(s, 0, a);

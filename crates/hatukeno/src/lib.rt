@@ -4,10 +4,11 @@
 use board::Board;
 
 mod calls;
+mod lengths;
 mod lists;
 
-// The board midway through a list of steps, and whether one of them has been accepted. No Option: the next step goes on
-// from the board either way.
+// The board midway through a list of steps, and whether one of them has been accepted. No Option: by the definition
+// (midway) the next step goes on from the board either way.
 #[derive(Clone, Copy)]
 pub struct Midway {
     pub board: Board,

@@ -1,8 +1,8 @@
 -- Laws of tests: what branch facts say of them, of 'and' and 'implies', and of a test over the numbers below n.
--- A loop that tests each number cites every_none, every_more, every_fails and every_done.
+-- The loop that tests each number (crates/well_formed/src/every.rt) cites every_none, every_more and every_fails.
 use mathlib.Core.Path.{◌≡◌, refl}
 use mathlib.Core.Bool.{Bool, true, false, ◌&&◌}
-use Prim.Native.Nat.{ℕ, zero, suc, ◌+◌, ◌≤◌, ◌<◌}
+use Prim.Native.Nat.{ℕ, zero, suc, ◌+◌, ◌<◌}
 use native.Mathlib.Numerals.{add-one}
 use native.Mathlib.Omega.{arith}
 use borrow.Author.Tests.{not-true, not-false, eqb-true, eqb-false, le-ltb, lt-ltb, le-leb, lt-leb, eq-eqb, ne_eqb}
@@ -36,11 +36,6 @@ pub every_more : (p : ℕ → Bool) (i : ℕ) → every i p ≡ true → p i ≡
 unfolding every
 every_more p i h g = rw (add-one, h, g)
 
-pub every_done : (p : ℕ → Bool) (n i : ℕ) → i ≤ n → n ≤ i → every i p ≡ true → every n p ≡ true
-every_done p n i h g e =
-    let z : i ≡ n = omega arith in
-    rw z at e
-
 pub every_fails : (p : ℕ → Bool) (n i : ℕ) → i < n → p i ≡ false → every n p ≡ false
 unfolding every
 every_fails p zero i h e = absurd (omega arith)
@@ -49,12 +44,6 @@ every_fails p (suc n) i h e = go (every_fails p n i) (eqb i n) refl
     go : (i < n → p i ≡ false → every n p ≡ false) → (x : Bool) → eqb i n ≡ x → every (suc n) p ≡ false
     go rest true f = and_false (every n p) (p n) (rw (eqb-true i n f) at e)
     go rest false f = rw (rest (omega (arith, eqb-false i n f)) e)
-
--- a test that holds of each number below n
-pub every_of : (p : ℕ → Bool) (n : ℕ) → ((k : ℕ) → k < n → p k ≡ true) → every n p ≡ true
-unfolding every
-every_of p zero h = refl
-every_of p (suc n) h = rw (every_of p n (λ k l. h k (omega arith)), h n (omega arith))
 
 -- what a test over all the numbers below n says of one of them
 pub every_at : (p : ℕ → Bool) (n : ℕ) → every n p ≡ true → (k : ℕ) → k < n → p k ≡ true

@@ -16,7 +16,7 @@ impl Console {
     };
 }
 
-// Console c; from 8 on an idle one.
+// Console c; from 8 on an idle one. (The cast: cells.rt.)
 #[tactic(auto, unfolding(crate::specs::Parts::console_in))]
 pub fn console_in(consoles: [Console; CONSOLES], c: ConsoleId) -> Console
     ensures { result ≡ console_in consoles c.0 }

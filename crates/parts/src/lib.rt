@@ -10,7 +10,7 @@ pub const MAX_CONSOLES: u32 = 8;
 
 pub const MAX_TS: u32 = 4000000000;
 
-// The lengths of a board's lists: its nodes, its consoles, and a cell for each pair.
+// The lengths of a board's lists: its nodes, its consoles, and a cell for each pair. Casts: a constant can call no From.
 pub const NODES: usize = MAX_NODES as usize;
 
 pub const CONSOLES: usize = MAX_CONSOLES as usize;

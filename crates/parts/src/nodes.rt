@@ -13,7 +13,7 @@ impl Node {
     };
 }
 
-// Node k; from 5 on a fresh node.
+// Node k; from 5 on a fresh node. (The cast: cells.rt.)
 #[tactic(auto, unfolding(crate::specs::Parts::node_in))]
 pub fn node_in(nodes: [Node; NODES], k: NodeId) -> Node
     ensures { result ≡ node_in nodes k.0 }

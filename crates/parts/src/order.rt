@@ -6,7 +6,8 @@ ghost use Rattle.parts.specs.Tags.{greater, key, compared};
 use crate::Tag;
 use std::cmp::Ordering;
 
-// No PartialOrd: past console number 7 two tags may have one number, and no order makes them equal then.
+// No derived order: document 02 has tags compared by one number each (Paper 5), and an order by that number is lawful only
+// below console number 8.
 impl Tag {
     // The tag before any write.
     pub const ZERO: Tag = Tag { ts: 0, console: 0 };

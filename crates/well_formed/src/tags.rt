@@ -1,4 +1,4 @@
-// The clauses on tags and their values.
+// The clauses on tags and their values, which come apart, as nodes, consoles and frames have them (parts).
 ghost use Rattle.std.specs.Prelude.{◌≡◌};
 ghost use Rattle.well_formed.specs.Clauses.{is_zero, tag_ok};
 
