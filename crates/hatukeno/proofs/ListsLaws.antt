@@ -1,18 +1,21 @@
 -- Laws of lists of steps.
 use Prim.Native.Nat.{ℕ, zero, suc, ◌+◌, ◌*◌, ◌/◌, ◌≤◌, ◌<◌}
 use mathlib.Core.Bool.{Bool, true, false, cond, ◌||◌}
-use mathlib.Core.List.{List}
-use mathlib.Core.Path.{◌≡◌, refl, sym, ◌∙◌}
+use mathlib.Core.List.{List, [], ◌∷◌}
+use mathlib.Core.Path.{◌≡◌, refl, sym, ap, ◌∙◌}
 use native.Mathlib.Numerals.{add-one}
 use native.Mathlib.Omega.{arith}
 use borrow.Author.Tests.{leb-true, leb-false, le-leb, ne_eqb, eq-eqb}
 use lib.Dec.{eqb, leb}
-use lib.ListN.{length}
+use lib.ListN.{length, get_or, drop}
+use Rattle.std.specs.Simd.{first_chunks}
+use Rattle.std.proofs.lemmas.List.{get_or-take, get_or-drop}
+use Rattle.verbs.specs.Verbs.{step_of}
 use lib.Seq.{length-sets}
 use Rattle.parts.specs.Outcomes.{accepted}
 use Rattle.board.specs.declared.Answer.{Answer}
 use Rattle.board.specs.declared.Board.{Board}
-use Rattle.layout.specs.Layout.{board_words}
+use Rattle.layout.specs.Layout.{board_words, word}
 use Rattle.hatukeno.specs.declared.Midway.{Midway}
 use Rattle.hatukeno.specs.Calls.{answer_words, answer_fields, put_answer}
 use Rattle.hatukeno.specs.Lists.{step_words, step_at, go_on, midway, answers, kept_after, steps_in, last_of, answers_of, list_short_by, list_code, Ran}
@@ -52,6 +55,23 @@ module _ (w q s : ℕ) where
 
 -- ---- one step more
 
+-- the words of a list's steps, three for each
+three_of : (q : List ℕ) (n i j : ℕ) → i < n → j < step_words → get_or (get_or (first_chunks step_words n q) i []) j 0 ≡ word q (i * step_words + j)
+three_of q zero i j l m = absurd (omega arith)
+three_of q (suc n) zero j l m =
+    let at : j ≡ 0 * step_words + j = omega arith in
+    get_or-take step_words q j 0 m ∙ ap (word q) at
+three_of q (suc n) (suc i) j l m =
+    let at : step_words + (i * step_words + j) ≡ suc i * step_words + j = omega arith in
+    three_of (drop step_words q) n i j (omega arith) m ∙ get_or-drop step_words q (i * step_words + j) 0 ∙ ap (word q) at
+
+pub step_is : (q : List ℕ) (steps : List (List ℕ)) (i : ℕ) (b : Board) → steps ≡ first_chunks step_words (steps_in (length q)) q → i < steps_in (length q)
+    → step_of (word (get_or steps i []) 0) (word (get_or steps i []) 1) (word (get_or steps i []) 2) b ≡ step_at q i b
+unfolding step_at
+step_is q steps i b e l =
+    let at : i * step_words + 0 ≡ i * step_words = omega arith in
+    rw (e, three_of q (steps_in (length q)) i 0 l (omega arith), three_of q (steps_in (length q)) i 1 l (omega arith), three_of q (steps_in (length q)) i 2 l (omega arith), at)
+
 -- the board after a step, and whether one was accepted so far
 pub went_on : (x : Midway) (a : Answer) (b : Board) (m : Bool) → b ≡ cond (accepted a.outcome) a.board x.board → m ≡ (x.moved || accepted a.outcome)
     → ◌≡◌ {A = Midway} (record { board = b; moved = m }) (go_on x a)
@@ -72,15 +92,6 @@ midway_more q b k = rw add-one
 pub answers_more : (q : List ℕ) (b : Board) (s : List ℕ) (k : ℕ) → put_answer (answers q b s k) (k * answer_words) (step_at q k (midway q b k).board) ≡ answers q b s (k + 1)
 unfolding answers
 answers_more q b s k = rw add-one
-
-pub put_answer_long : (s : List ℕ) (p : ℕ) (a : Answer) → length (put_answer s p a) ≡ length s
-unfolding put_answer
-put_answer_long s p a = length-sets s p (answer_fields a)
-
-pub answers_long : (q : List ℕ) (b : Board) (s : List ℕ) (k : ℕ) → length (answers q b s k) ≡ length s
-unfolding answers
-answers_long q b s zero = refl
-answers_long q b s (suc k) = put_answer_long (answers q b s k) (k * answer_words) (step_at q k (midway q b k).board) ∙ answers_long q b s k
 
 -- ---- calls
 

@@ -19,9 +19,9 @@ fn run_steps(q: &[u32], s: &mut [u32], b: Board) -> Midway
 {
     let mut checked = Checked::new(b);
     let mut moved = false;
-    for i in 0..q.len() / STEP_WORDS {
-        let at = i * STEP_WORDS;
-        let answer = checked.put(q[at], q[at + 1], q[at + 2]);
+    let (steps, _) = q.as_chunks::<STEP_WORDS>();
+    for (i, [verb, x, y]) in steps.iter().enumerate() {
+        let answer = checked.put(*verb, *x, *y);
         put_answer(s, i * ANSWER_WORDS, answer);
         moved |= answer.outcome.is_accepted();
     }
