@@ -1,7 +1,7 @@
 -- Laws of lists of steps.
 use Prim.Native.Nat.{ℕ, zero, suc, ◌+◌, ◌*◌, ◌/◌, ◌≤◌, ◌<◌}
 use mathlib.Core.Bool.{Bool, true, false, cond, ◌||◌}
-use mathlib.Core.List.{List, [], ◌∷◌}
+use mathlib.Core.List.{List, []}
 use mathlib.Core.Path.{◌≡◌, refl, sym, ap, ◌∙◌}
 use native.Mathlib.Numerals.{add-one}
 use native.Mathlib.Omega.{arith}
@@ -11,13 +11,12 @@ use lib.ListN.{length, get_or, drop}
 use Rattle.std.specs.Simd.{first_chunks}
 use Rattle.std.proofs.lemmas.List.{get_or-take, get_or-drop}
 use Rattle.verbs.specs.Verbs.{step_of}
-use lib.Seq.{length-sets}
 use Rattle.parts.specs.Outcomes.{accepted}
 use Rattle.board.specs.declared.Answer.{Answer}
 use Rattle.board.specs.declared.Board.{Board}
 use Rattle.layout.specs.Layout.{board_words, word}
 use Rattle.hatukeno.specs.declared.Midway.{Midway}
-use Rattle.hatukeno.specs.Calls.{answer_words, answer_fields, put_answer}
+use Rattle.hatukeno.specs.Calls.{answer_words, put_answer}
 use Rattle.hatukeno.specs.Lists.{step_words, step_at, go_on, midway, answers, kept_after, steps_in, last_of, answers_of, list_short_by, list_code, Ran}
 
 -- ---- lengths

@@ -33,16 +33,6 @@ pub(crate) fn put_answer(s: &mut [u32], p: usize, a: Answer)
     put_words(s, p, &fields);
 }
 
-// Writes the next board back, if a step has made one. The caller has seen that the words reach for a board.
-pub(crate) fn keep(w: &mut [u32], moved: bool, next: Board)
-    requires { board_words ≤ length w.old }
-    ensures { w.new ≡ cond moved (encoded w.old next) w.old }
-{
-    if moved {
-        encode(w, next);
-    }
-}
-
 // Writes the answer a of a step, and the next board unless the step was refused; nothing if memory is short.
 fn respond(w: &mut [u32], s: &mut [u32], a: Answer) -> u32
     ensures { Called a w.old s.old result w.new s.new }
@@ -51,7 +41,9 @@ fn respond(w: &mut [u32], s: &mut [u32], a: Answer) -> u32
         Err(short) => u32::from(short),
         Ok(()) => {
             put_answer(s, 0, a);
-            keep(w, a.outcome.is_accepted(), a.board);
+            if a.outcome.is_accepted() {
+                encode(w, a.board);
+            }
             0
         }
     }

@@ -6,10 +6,11 @@ ghost use Rattle.hatukeno.specs.Calls.{answer_words};
 ghost use Rattle.hatukeno.specs.Lists.{midway, answers, kept_after, steps_in, last_of, answers_of, Ran};
 
 use crate::Midway;
-use crate::calls::{keep, put_answer};
+use crate::calls::put_answer;
 use crate::lengths::{ANSWER_WORDS, STEP_WORDS, fits};
 use board::Board;
 use layout::reading::decode;
+use layout::writing::encode;
 use verbs::Checked;
 
 // Puts the steps to the board b, with their answers into s. The caller has seen that s reaches for them.
@@ -39,7 +40,9 @@ fn run_list(w: &mut [u32], q: &[u32], s: &mut [u32])
     ensures { (w.new ≡ kept_after w.old (last_of w.old q.now)) × (s.new ≡ answers_of w.old q.now s.old) }
 {
     let x = run_steps(q, s, decode(w));
-    keep(w, x.moved, x.board);
+    if x.moved {
+        encode(w, x.board);
+    }
 }
 
 // The list of steps q: three words each, the step's number and its two numbers.

@@ -1,6 +1,5 @@
 -- By the lengths, and the two laws of calls.
-use Rattle.std.proofs.Common.{Bool, cond, refl, sym, ap, ◌∙◌}
-use Rattle.layout.specs.Layout.{encoded}
+use Rattle.std.proofs.Common.{refl, sym, ◌∙◌}
 use Rattle.hatukeno.specs.Calls.{kept}
 use Rattle.hatukeno.proofs.CallsLaws.{long_board, long_answer, one_step, short_number, not_called, called}
 use Rattle.hatukeno.proofs.calls.respond.Goals as goal
@@ -11,12 +10,14 @@ returns-in-Err c = not_called _ _ _ _ (c.from.ensures ∙ c.in-Err.ensures {u = 
 pub put_answer-requires : goal.put_answer-requires
 put_answer-requires c = long_answer _ _ (sym (c.in-Ok.ensures {u = tt} ∙ one_step _ _))
 
-pub keep-requires : goal.keep-requires
-keep-requires c = long_board _ _ (sym (c.in-Ok.ensures {u = tt} ∙ one_step _ _))
-
-pub returns-in-Ok : goal.returns-in-Ok
+pub returns-then-is_accepted : goal.returns-then-is_accepted
 unfolding kept
-returns-in-Ok c =
-    let w = c.args.w.now in
-    let moved = ap (λ (x : Bool). cond x (encoded w c.args.a.board) w) c.is_accepted.ensures in
-    called _ _ _ _ (c.in-Ok.ensures {u = tt} ∙ one_step _ _) refl _ _ (c.keep.ensures ∙ moved) c.put_answer.ensures
+returns-then-is_accepted c =
+    let fits = c.in-Ok.ensures {u = tt} ∙ one_step _ _ in
+    let written = (c.encode.ensures.0 (long_board _ _ (sym fits))).0 in
+    called _ _ _ _ fits refl _ _ (written ∙ rw (sym (c.if-is_accepted.ensures {u = tt}))) c.put_answer.ensures
+
+pub returns-else-is_accepted : goal.returns-else-is_accepted
+unfolding kept
+returns-else-is_accepted c =
+    called _ _ _ _ (c.in-Ok.ensures {u = tt} ∙ one_step _ _) refl _ _ (rw (sym (c.if-is_accepted.ensures {u = tt}))) c.put_answer.ensures
