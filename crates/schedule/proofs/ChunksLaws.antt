@@ -9,11 +9,10 @@ use lib.Dec.{eqb}
 use lib.ListN.{length, take, drop, get_or, length-take, length-append}
 use lib.Seq.{take_all, drop-cons, sets}
 use Rattle.std.specs.Prelude.{Option, Some, None}
-use Rattle.std.specs.List.{position}
+use Rattle.std.proofs.lemmas.Bool.{false_from_ne_true}
+use Rattle.std.proofs.lemmas.Grind.{get_or_default_zero}
 use Rattle.std.proofs.lemmas.List.{get_or-take, take-append-drop}
-use Rattle.std.proofs.lemmas.Grind.{common_steps}
-use Rattle.std.proofs.lemmas.List.Sums.{fails_before_first}
-use Rattle.std.proofs.lemmas.List.Quantifiers.{position-Some}
+use Rattle.memchr.specs.Find.{IsFirstByte, is_byte}
 use Rattle.board.specs.declared.Board.{Board}
 use Rattle.decisions.specs.Questions.{guarded}
 use Rattle.board.specs.Boards.{fresh_board}
@@ -49,22 +48,21 @@ quiet (x ∷ t) none s h =
       ap (λ (u : List ℕ). u ++ text_of (after_byte s x) t) (byte_text s x e) ∙ ap (λ (z : Session). text_of z t) (byte_after s x e) ∙ more.1,
     )
 
--- ---- the first LF, if there is one: what stands before it, and from it on
+-- ---- the first LF, as memchr finds it: what stands before it and from it on; and where there is none
 
-module _ (l before from : List ℕ) (i : ℕ) (e : Some i ≡ position (λ x. eqb x lf_byte) l) (f : before ≡ take i l) (g : from ≡ drop i l) where
+module _ (l before from : List ℕ) (i : ℕ) (e : IsFirstByte (is_byte lf_byte) l (Some i)) (f : before ≡ take i l) (g : from ≡ drop i l) where
   pub before_lf : NoLf before
   before_lf k d h =
       let inside : k < i = omega (arith, h, ap length f, length-take i l) in
-      rw (f, get_or-take i l k d inside) ((position-Some (λ x. eqb x lf_byte) l i d (sym e)).2 k inside)
+      rw (f, get_or-take i l k d inside, get_or_default_zero l k d (omega (arith, e.0.high))) (false_from_ne_true _ (e.0.before k (omega arith) inside))
 
   pub around_lf : l ≡ (before ++ lf_byte ∷ []) ++ drop 1 from
   around_lf =
-      let first = position-Some (λ x. eqb x lf_byte) l i 0 (sym e) in
-      let at : drop i l ≡ lf_byte ∷ drop (suc i) l = drop-cons l i 0 first.0 ∙ rw (eqb-true _ _ first.1) refl in
+      let at : drop i l ≡ lf_byte ∷ drop (suc i) l = drop-cons l i 0 e.0.high ∙ rw (eqb-true _ _ e.1) refl in
       rw (f, g, append_assoc, at) (sym (ap (λ (r : List ℕ). take i l ++ r) (sym at) ∙ take-append-drop i l))
 
-pub no_lf : (l : List ℕ) → None ≡ position (λ x. eqb x lf_byte) l → NoLf l
-no_lf l e k d h = grind (arith, common_steps, fails_before_first)
+pub no_lf : (l : List ℕ) → IsFirstByte (is_byte lf_byte) l None → NoLf l
+no_lf l e k d h = rw (get_or_default_zero l k d h) (false_from_ne_true _ (e k (omega arith) h))
 
 -- ---- what a run has taken
 

@@ -1,5 +1,5 @@
 // A run under way over the bytes of a chunk, in lent memory.
-ghost use Rattle.std.specs.Prelude.{[], ◌∷◌, ◌++◌, ◌≡◌, ◌==◌, ◌+◌, ◌≤◌, length, position, take};
+ghost use Rattle.std.specs.Prelude.{[], ◌∷◌, ◌++◌, ◌≡◌, ◌+◌, ◌≤◌, length, take};
 ghost use Rattle.csv_lines.specs.Reading.{lf_byte};
 ghost use Rattle.csv_lines.specs.Splitting.{held_bytes};
 ghost use Rattle.schedule.specs.Chunks.{session_of};
@@ -9,14 +9,8 @@ use crate::Position;
 use crate::effects::{answer_to, output_of};
 use csv_lines::splitting::{HELD_BYTES, chopped, hold};
 use csv_lines::writing::put_line;
+use memchr::memchr;
 use verbs::Checked;
-
-// The place of the first LF.
-fn first_lf(bytes: &[u8]) -> Option<usize>
-    ensures { result ≡ position (λ x. x == lf_byte) bytes.now }
-{
-    bytes.iter().position(|x| *x == b'\n')
-}
 
 // The board, the number of the line, what is held of it at the start of the lent line, and the lent output with its
 // running place.
@@ -91,7 +85,7 @@ impl<'a> Run<'a> {
         ensures { Took self.old self.new bytes.now }
     {
         let mut rest = bytes;
-        while let Some(i) = first_lf(rest) {
+        while let Some(i) = memchr(b'\n', rest) {
             let (line, after) = rest.split_at(i);
             self.end_line(line);
             rest = &after[1..];
