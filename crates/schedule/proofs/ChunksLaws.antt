@@ -1,32 +1,25 @@
--- Laws of the bytes of a chunk: those that end no line, an LF, and some after others; and of the input's beginning and end.
-use Prim.Native.Nat.{ℕ, suc, ◌+◌, ◌*◌, ◌≤◌, ◌<◌, min}
-use mathlib.Core.Bool.{Bool, true, false}
+-- Laws of the bytes of a chunk: those that end no line, an LF, and some after others; and of the input's end.
+use Prim.Native.Nat.{ℕ, suc, ◌≤◌, ◌<◌}
+use mathlib.Core.Bool.{false}
 use mathlib.Core.List.{List, [], ◌∷◌, ◌++◌, append_assoc, append-nil}
 use mathlib.Core.Path.{◌≡◌, refl, sym, ap, ◌∙◌}
 use native.Mathlib.Omega.{arith}
 use borrow.Author.Tests.{eqb-true}
 use lib.Dec.{eqb}
-use lib.ListN.{length, take, drop, get_or, length-take, length-append}
+use lib.ListN.{length, take, drop, length-take, length-append}
 use lib.Seq.{take_all, drop-cons, sets}
-use Rattle.std.specs.Prelude.{Option, Some, None}
+use Rattle.std.specs.Prelude.{Some, None}
 use Rattle.std.proofs.lemmas.Bool.{false_from_ne_true}
 use Rattle.std.proofs.lemmas.Grind.{get_or_default_zero}
 use Rattle.std.proofs.lemmas.List.{get_or-take, take-append-drop}
 use Rattle.memchr.specs.Find.{IsFirstByte, is_byte}
 use Rattle.board.specs.declared.Board.{Board}
-use Rattle.decisions.specs.Questions.{guarded}
-use Rattle.board.specs.Boards.{fresh_board}
-use Rattle.board.specs.Steps.{smallest, fresh}
-use Rattle.well_formed.specs.Clauses.{nodes_allowed, consoles_allowed}
 use Rattle.csv_lines.specs.Reading.{lf_byte}
 use Rattle.csv_lines.specs.Splitting.{chop, held_bytes}
-use Rattle.csv_lines.specs.Writing.{line_bytes}
 use Rattle.csv_lines.proofs.SetsLaws.{sets_sets}
-use Rattle.csv_lines.proofs.SplittingLaws.{take_least}
-use Rattle.schedule.specs.declared.Position.{Position}
 use Rattle.schedule.specs.declared.running.Run.{Run}
-use Rattle.schedule.specs.Schedule.{effect_of, next_number}
-use Rattle.schedule.specs.Chunks.{Session, with_byte, after_byte, text_at, after_bytes, text_of, text_at_end, session_of, Consumed}
+use Rattle.schedule.specs.Schedule.{effect_of}
+use Rattle.schedule.specs.Chunks.{Session, with_byte, after_byte, text_at, after_bytes, text_of, text_at_end}
 use Rattle.schedule.specs.Running.{Answered, NoLf, session_in, Took}
 use Rattle.schedule.proofs.Whole.{take_again, byte_after, byte_text, lf_after, lf_text, after_append, text_append}
 
@@ -78,8 +71,8 @@ took_lf p q e =
       len = e.len;
       held = rw e.held refl;
       session = simp (e.held, e.board, e.number) (sym (lf_after (session_in p) lf_byte refl));
-      at = omega (arith, e.at, ap length text);
-      out = e.out ∙ ap (sets p.out.now p.at) (sym text);
+      wrote = omega (arith, e.wrote, ap length text);
+      out = e.out ∙ ap (sets p.out.now p.wrote) (sym text);
       short = omega (arith, e.short);
     }
 
@@ -96,16 +89,12 @@ took_more p q r c d l t u e =
       len = u.len ∙ t.len;
       held = u.held;
       session = u.session ∙ ap (λ (z : Session). after_bytes z d) t.session ∙ sym (ap (after_bytes (session_in p)) e ∙ after_append (session_in p) c d);
-      at = omega (arith, t.at, u.at, ap length text, length-append first then);
-      out = u.out ∙ ap (λ (o : List ℕ). sets o q.at then) t.out ∙ sets_sets p.out.now p.at q.at first then t.at ∙ ap (sets p.out.now p.at) (sym text);
+      wrote = omega (arith, t.wrote, u.wrote, ap length text, length-append first then);
+      out = u.out ∙ ap (λ (o : List ℕ). sets o q.wrote then) t.out ∙ sets_sets p.out.now p.wrote q.wrote first then t.wrote ∙ ap (sets p.out.now p.wrote) (sym text);
       short = omega (arith, t.short, u.short, ap length e, length-append c d);
     }
 
--- ---- the beginning and the end
-
-pub first_board : (fresh smallest).board ≡ fresh_board smallest
-unfolding fresh guarded nodes_allowed consoles_allowed
-first_board = refl
+-- ---- the end of the input
 
 pub no_last : (l : List ℕ) (b : Board) (n : ℕ) → length l ≡ 0 → text_at_end l b n ≡ []
 unfolding text_at_end
@@ -117,5 +106,5 @@ unfolding text_at_end
 a_last [] b n h = absurd (h refl)
 a_last (x ∷ l) b n h = refl
 
--- what the end of the input goes by: no more is held than the line has bytes
-pub ruleset end_laws = (take_least, no_last, a_last)
+-- what the end of the input goes by
+pub ruleset end_laws = (no_last, a_last)

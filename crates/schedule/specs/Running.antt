@@ -9,7 +9,7 @@ use Rattle.schedule.specs.Chunks.{Session, after_bytes, text_of}
 
 -- the output has room for n lines at the running place
 abbrev pub HasRoom : Run → ℕ → Type 0
-HasRoom r n = r.at + n * line_bytes ≤ length r.out.now
+HasRoom r n = r.wrote + n * line_bytes ≤ length r.out.now
 
 -- none of the bytes is an LF
 abbrev pub NoLf : List ℕ → Type 0
@@ -27,9 +27,9 @@ pub record Answered (p q : Run) (line : List ℕ) : Type 0 where
   pub held : q.held ≡ 0
   pub board : q.checked.board ≡ (effect_of p.checked.board p.number line).board
   pub number : q.number ≡ next_number p.number
-  pub at : q.at ≡ p.at + length (effect_of p.checked.board p.number line).text
-  pub out : q.out.now ≡ sets p.out.now p.at (effect_of p.checked.board p.number line).text
-  pub short : q.at ≤ p.at + line_bytes
+  pub wrote : q.wrote ≡ p.wrote + length (effect_of p.checked.board p.number line).text
+  pub out : q.out.now ≡ sets p.out.now p.wrote (effect_of p.checked.board p.number line).text
+  pub short : q.wrote ≤ p.wrote + line_bytes
 
 -- the run p took the bytes, and is q then, in the same lent memory
 pub record Took (p q : Run) (bytes : List ℕ) : Type 0 where
@@ -38,6 +38,6 @@ pub record Took (p q : Run) (bytes : List ℕ) : Type 0 where
   pub len : length q.out.now ≡ length p.out.now
   pub held : q.held ≡ length (session_in q).held
   pub session : session_in q ≡ after_bytes (session_in p) bytes
-  pub at : q.at ≡ p.at + length (text_of (session_in p) bytes)
-  pub out : q.out.now ≡ sets p.out.now p.at (text_of (session_in p) bytes)
-  pub short : q.at ≤ p.at + length bytes * line_bytes
+  pub wrote : q.wrote ≡ p.wrote + length (text_of (session_in p) bytes)
+  pub out : q.out.now ≡ sets p.out.now p.wrote (text_of (session_in p) bytes)
+  pub short : q.wrote ≤ p.wrote + length bytes * line_bytes

@@ -46,22 +46,21 @@ pub fn run_chunk(
         number: run.number,
         held: run.held,
         consumed,
-        wrote: run.at,
+        wrote: run.wrote,
     }
 }
 
 // Ends the input: puts what its last line comes to at the start of the output, and answers how many bytes that is. What
-// is held is the last line, if it is not empty.
+// is held is the last line, if it is not empty; the run is lent a copy, since it may write into what it is lent.
 #[tactic(auto, using(crate::proofs::ChunksLaws::end_laws))]
 pub fn run_end(s: Position, line: &[u8; HELD_BYTES], out: &mut [u8; OUT_BYTES]) -> usize
     ensures { (result ≤ length out.new) × (result ≡ length (last_text (session_of s line.now))) × (out.new ≡ sets out.old 0 (last_text (session_of s line.now))) }
 {
     let mut held = *line;
     let mut run = Run::new(s, &mut held, out);
-    if run.held == 0 {
-        return 0;
-    }
     let n = run.held;
-    run.answer(n);
-    run.at
+    if n > 0 {
+        run.answer(n);
+    }
+    run.wrote
 }

@@ -2,8 +2,8 @@
 ghost use Rattle.std.specs.Prelude.{◌≡◌};
 ghost use Rattle.schedule.specs.Schedule.{answer_to, board_after, line_output};
 
-use board::refusals::Refusal;
 use board::Answer;
+use board::refusals::Refusal;
 use csv_lines::reading::read_line;
 use csv_lines::{BadLine, Output};
 use verbs::Checked;

@@ -21,7 +21,7 @@ pub(crate) struct Run<'a> {
     pub line: &'a mut [u8; HELD_BYTES],
     pub held: usize,
     pub out: &'a mut [u8],
-    pub at: usize,
+    pub wrote: usize,
 }
 
 impl<'a> Run<'a> {
@@ -34,7 +34,7 @@ impl<'a> Run<'a> {
         ensures same { (result.line.ghost_name ≡ line.entry.ghost_name) × (result.out.ghost_name ≡ out.entry.ghost_name) }
         ensures session { session_in result ≡ session_of position line.old }
         ensures held { result.held ≡ length (session_in result).held }
-        ensures out { (result.at ≡ 0) × (result.out.now ≡ out.old) }
+        ensures out { (result.wrote ≡ 0) × (result.out.now ≡ out.old) }
     {
         Run {
             checked: Checked::new(position.board),
@@ -42,7 +42,7 @@ impl<'a> Run<'a> {
             line,
             held: position.held.min(HELD_BYTES),
             out,
-            at: 0,
+            wrote: 0,
         }
     }
 
@@ -54,7 +54,7 @@ impl<'a> Run<'a> {
         ensures { Answered self.old self.new (take n self.old.line.now) }
     {
         let answer = answer_to(&self.line[..n], &mut self.checked);
-        self.at = put_line(self.out, self.at, output_of(self.number, answer));
+        self.wrote = put_line(self.out, self.wrote, output_of(self.number, answer));
         self.number = self.number.saturating_add(1);
         self.held = 0;
     }
@@ -74,12 +74,12 @@ impl<'a> Run<'a> {
         ensures { Took self.old self.new (bytes.now ++ lf_byte ∷ []) }
     {
         self.hold(bytes);
-        let held = self.held;
-        let n = chopped(self.line, held);
+        let n = chopped(self.line, self.held);
         self.answer(n);
     }
 
-    // Takes the bytes, line by line. The caller has seen that the output has room for a line at every byte.
+    // Takes the bytes, line by line. The caller has seen that the output has room for a line at every byte. It is no `for`
+    // over std's `split`: that hands on what stands after the last LF, which is no line yet, as it does a line.
     pub(crate) fn take(&mut self, bytes: &[u8])
         requires { HasRoom self.old (length bytes.now) }
         ensures { Took self.old self.new bytes.now }

@@ -21,7 +21,7 @@ returns c =
       len = refl;
       held = omega (arith, held.0, length-take {A = ℕ});
       session = ap (λ (l : List ℕ). record { held = l; board = s.board; number = s.number }) (held.1 ∙ ap (λ (n : ℕ). take n (s.held ++ c.args.bytes.now)) room) ∙ sym took.0;
-      at = omega (arith, ap length took.1);
-      out = sym (ap (sets run.out.now run.at) took.1);
+      wrote = omega (arith, ap length took.1);
+      out = sym (ap (sets run.out.now run.wrote) took.1);
       short = omega arith;
     }
