@@ -1,5 +1,5 @@
--- A run over an input that comes in chunks: where it stands between two bytes, and what it writes at each. The theorem `whole` says
--- that it writes the output for the whole input, wherever the chunks end.
+-- A run over an input that comes in chunks: where it stands between two bytes, and what it writes at each. The theorem
+-- `whole` says that it writes the output for the whole input, wherever the chunks end.
 use Rattle.std.specs.Prelude.{ℕ, ◌+◌, ◌≤◌, cond, List, [], ◌∷◌, ◌++◌, ◌≡◌, eqb, length, take}
 use Rattle.std.proofs.lemmas.List.Edits.{sets}
 use Rattle.board.specs.declared.Board.{Board}

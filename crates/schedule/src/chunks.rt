@@ -28,7 +28,8 @@ pub const CHUNK_BYTES: usize = 4096;
 
 pub const OUT_BYTES: usize = CHUNK_BYTES * LINE_BYTES;
 
-// Puts the first n bytes of the chunk to the run, and what they come to at the start of the output.
+// Puts the first n bytes of the chunk to the run, and what they come to at the start of the output. The chunk is a whole
+// buffer with a count, as a read leaves it: at a slice of any length the room would have to be required of the caller.
 pub fn run_chunk(
     s: Position,
     line: &mut [u8; HELD_BYTES],

@@ -8,7 +8,7 @@ use csv_lines::reading::read_line;
 use csv_lines::{BadLine, Output};
 use verbs::Checked;
 
-// The answer to a line.
+// The answer to a line. The refusals are no `From` of a BadLine: it would have to stand in the crate of one of the two.
 #[tactic(auto, unfolding(crate::specs::Schedule::answer_of, crate::specs::Schedule::board_after))]
 pub(crate) fn answer_to(line: &[u8], checked: &mut Checked) -> Answer
     ensures answer { result ≡ answer_to line.now checked.old.board }
