@@ -19,74 +19,72 @@ enum Failure {
     Write(io::Error),
 }
 
-// Writes the first n bytes of out. The caller has seen that there are so many.
-fn write_first<W: Write>(output: &mut W, out: &[u8], n: usize) -> Result<(), Failure>
-    requires { n ≤ length out.now }
-{
-    output.write_all(&out[..n]).map_err(Failure::Write)
-}
-
-// Reads once, and answers what came; where the run stands after it, or None at the end of the input.
-fn read_some<R: Read, W: Write>(
-    input: &mut R,
-    output: &mut W,
+// The rack at work: its input and output, where the run over the schedule stands, and the memory that it lends the run.
+#[derive(Drop)]
+struct Rack<'a, R, W> {
+    input: &'a mut R,
+    output: &'a mut W,
     position: Position,
-    line: &mut [u8; HELD_BYTES],
-    out: &mut [u8; OUT_BYTES],
-) -> Result<Option<Position>, Failure> {
-    let mut chunk = [0u8; CHUNK_BYTES];
-    let n = input.read(&mut chunk).map_err(Failure::Read)?;
-    if n == 0 {
-        return Ok(None);
-    }
-    let next = run_chunk(position, line, &chunk, n, out);
-    write_first(output, out, next.wrote)?;
-    Ok(Some(next))
+    line: [u8; HELD_BYTES],
+    out: [u8; OUT_BYTES],
 }
 
-// Answers all but a last line that no LF ends. A proved loop has to end, and nothing says that an input does: so this
-// one counts to a number that no run reaches.
-fn read_all<R: Read, W: Write>(
-    input: &mut R,
-    output: &mut W,
-    line: &mut [u8; HELD_BYTES],
-    out: &mut [u8; OUT_BYTES],
-) -> Result<Position, Failure> {
-    let mut position = start();
-    for _ in 0..u64::MAX {
-        let Some(next) = read_some(input, output, position, line, out)? else {
-            break;
-        };
-        position = next;
+impl<R: Read, W: Write> Rack<'_, R, W> {
+    // Writes the first n bytes of out. The caller has seen that there are so many.
+    fn write_first(&mut self, n: usize) -> Result<(), Failure>
+        requires { n ≤ length self.old.out }
+    {
+        self.output
+            .write_all(&self.out[..n])
+            .map_err(Failure::Write)
     }
-    Ok(position)
-}
 
-// Answers the last line, if no LF ends it.
-fn finish<W: Write>(
-    output: &mut W,
-    position: Position,
-    line: &[u8; HELD_BYTES],
-    out: &mut [u8; OUT_BYTES],
-) -> Result<(), Failure> {
-    let n = run_end(position, line, out);
-    write_first(output, out, n)
+    // Reads once, and answers what came. Says whether the input goes on.
+    fn read_some(&mut self) -> Result<bool, Failure> {
+        let mut chunk = [0u8; CHUNK_BYTES];
+        let n = self.input.read(&mut chunk).map_err(Failure::Read)?;
+        if n == 0 {
+            return Ok(false);
+        }
+        self.position = run_chunk(self.position, &mut self.line, &chunk, n, &mut self.out);
+        self.write_first(self.position.wrote)?;
+        Ok(true)
+    }
+
+    // Answers all but a last line that no LF ends. A proved loop has to end, and nothing says that an input does: so this
+    // one counts to a number that no run reaches.
+    fn read_all(&mut self) -> Result<(), Failure> {
+        for _ in 0..u64::MAX {
+            if !self.read_some()? {
+                break;
+            }
+        }
+        Ok(())
+    }
+
+    // Answers the last line, if no LF ends it.
+    fn finish(&mut self) -> Result<(), Failure> {
+        let n = run_end(self.position, &self.line, &mut self.out);
+        self.write_first(n)
+    }
 }
 
 // Answers the whole input.
 fn run<R: Read, W: Write>(input: &mut R, output: &mut W) -> Result<(), Failure> {
-    let mut line = [0u8; HELD_BYTES];
-    let mut out = [0u8; OUT_BYTES];
-    let position = read_all(input, output, &mut line, &mut out)?;
-    finish(output, position, &line, &mut out)
+    let mut rack = Rack {
+        input,
+        output,
+        position: start(),
+        line: [0; HELD_BYTES],
+        out: [0; OUT_BYTES],
+    };
+    rack.read_all()?;
+    rack.finish()
 }
 
 // An error's text without the number that ends it, as in 'Is a directory (os error 21)'.
 fn without_number(text: &str) -> &str {
-    match text.split_once(" (os error ") {
-        Some((why, _)) => why,
-        None => text,
-    }
+    text.split_once(" (os error ").map_or(text, |(why, _)| why)
 }
 
 // Says on standard error, in one line, what cannot be done and why.

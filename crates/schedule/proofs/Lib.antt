@@ -1,5 +1,4 @@
--- Laws of a line's effect, the theorem on whole inputs, laws of one chunk, and examples.
-pub mod ScheduleLaws
+-- The theorem on whole inputs, laws of a run under way, and examples.
 pub mod Whole
 pub mod ChunksLaws
 pub mod Examples

@@ -1,6 +1,6 @@
--- A run over an input that comes in chunks: where it stands between two bytes, and what it writes at each. The theorem `whole` says
--- that it writes the output for the whole input, wherever the chunks end.
-use Rattle.std.specs.Prelude.{ℕ, ◌+◌, ◌-◌, ◌≤◌, cond, List, [], ◌∷◌, ◌++◌, ◌≡◌, eqb, length, take, drop}
+-- A run over an input that comes in chunks: where it stands between two bytes, and what it writes at each. The theorem
+-- `whole` says that it writes the output for the whole input, wherever the chunks end.
+use Rattle.std.specs.Prelude.{ℕ, ◌+◌, ◌≤◌, cond, List, [], ◌∷◌, ◌++◌, ◌≡◌, eqb, length, take}
 use Rattle.std.proofs.lemmas.List.Edits.{sets}
 use Rattle.board.specs.declared.Board.{Board}
 use Rattle.board.specs.Boards.{fresh_board}
@@ -73,10 +73,6 @@ session_of r line = record { held = take r.held line; board = r.board; number = 
 -- a position before the first byte
 unfoldable pub started : Position
 started = record { board = at_start.board; number = at_start.number; held = 0; consumed = 0; wrote = 0 }
-
--- the bytes of a chunk from place i up to place j
-abbrev pub part : ℕ → ℕ → List ℕ → List ℕ
-part i j chunk = take (j - i) (drop i chunk)
 
 -- the run s has consumed these bytes, from place t of the chunk on: where it stands after them as r, how many bytes are
 -- consumed and held, and what it has written into the output from place p on. The line that holds what is held was

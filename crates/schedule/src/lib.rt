@@ -5,9 +5,10 @@ use board::Board;
 
 pub mod chunks;
 mod effects;
+mod running;
 
-// Where a run over an input stands: the board, the number of the line, how many bytes of the line are held in the lent line, and
-// how many bytes the run has consumed of the lent chunk and written into the lent output.
+// Where a run over an input stands: the board, the number of the line, how many bytes of the line are held in the lent
+// line, and how many bytes the run has consumed of the lent chunk and written into the lent output.
 #[derive(Clone, Copy)]
 pub struct Position {
     pub board: Board,
