@@ -16,6 +16,7 @@ fn read_parts<T: InWords<N>, const N: usize, const K: usize>(
 )
     ensures { parts.new ≡ map T.from each.now }
 {
+    // By parts.iter_mut().zip(each), as was tried, a proof has no fact of what the parts end as, only of their number.
     for (k, words) in each.iter().enumerate() {
         parts[k] = T::from_words(words);
     }
