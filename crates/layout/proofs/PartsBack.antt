@@ -127,8 +127,8 @@ unfolding console_fields console_from console_stands
 console_laws = record {
   wide = console_wide;
   back = λ x small.
-    let byte : x.answered % 256 ≡ x.answered = omega arith in
-    rw (state_back x.state, byte, flag_back x.alike);
+      let byte : x.answered % 256 ≡ x.answered = omega arith in
+      rw (state_back x.state, byte, flag_back x.alike);
   standing = λ x small. rw (state_stands x.state, le-leb x.answered last_set (omega arith), flag_stands x.alike);
   again = console_again;
 }

@@ -17,38 +17,32 @@ fewer_chunks s (suc k) zero w l = absurd (omega arith)
 fewer_chunks s (suc k) (suc n) w l = ap (λ xs. take s w ∷ xs) (fewer_chunks s k n (drop s w) (omega arith))
 
 -- they lie in the first k * s words
-chunks_within : {X : Type 0} (s k m : ℕ) (w : List X) → k * s ≤ m → first_chunks s k (take m w) ≡ first_chunks s k w
+pub chunks_within : {X : Type 0} (s k m : ℕ) (w : List X) → k * s ≤ m → first_chunks s k (take m w) ≡ first_chunks s k w
 chunks_within s zero m w l = refl
 chunks_within s (suc k) m w l =
     let rest : m ≡ s + (m - s) = omega arith in
     let dropped : drop s (take m w) ≡ take (m - s) (drop s w) = ap (λ n. drop s (take n w)) rest ∙ drop-take s (m - s) w in
     rw (take-take s m w (omega arith), dropped, chunks_within s k (m - s) (drop s w) (omega arith))
 
--- k parts from p on, all in the first m words: what was read from each of them, or asked of each, is so of all the words
+-- of m words so many are left from p on
+pub rest_long : {X : Type 0} (p m : ℕ) (w : List X) → length w ≡ m → length (take (m - p) (drop p w)) ≡ m - p
+rest_long p m w h = length-take-le (m - p) (drop p w) (omega (arith, h, length-drop p w))
+
+-- k parts from p on that lie in the first m words are read from these, and stand in them, as in all the words
 module _ (s k p m : ℕ) (w : List ℕ) (l : p + k * s ≤ m) where
-  here : first_chunks s k (take (m - p) (drop p w)) ≡ first_chunks s k (drop p w)
-  here = chunks_within s k (m - p) (drop p w) (omega arith)
-
-  first : drop p (take m w) ≡ take (m - p) (drop p w)
-  first =
+  chunks_first : first_chunks s k (drop p (take m w)) ≡ first_chunks s k (drop p w)
+  chunks_first =
       let rest : m ≡ p + (m - p) = omega arith in
-      ap (λ n. drop p (take n w)) rest ∙ drop-take p (m - p) w
-
-  pub read_from : {A : Type 0} (from : List ℕ → A) {each : List (List ℕ)} {xs : List A} → xs ≡ map from each → each ≡ first_chunks s k (take (m - p) (drop p w)) → xs ≡ all_from from s k (drop p w)
-  unfolding all_from
-  read_from from read e = read ∙ ap (map from) (e ∙ here)
-
-  pub asked_of : (stands : List ℕ → Bool) {each : List (List ℕ)} {ok : Bool} → ok ≡ list_all stands each → each ≡ first_chunks s k (take (m - p) (drop p w)) → ok ≡ all_stand stands s k (drop p w)
-  unfolding all_stand
-  asked_of stands asked e = asked ∙ ap (list_all stands) (e ∙ here)
+      let dropped : drop p (take m w) ≡ take (m - p) (drop p w) = ap (λ n. drop p (take n w)) rest ∙ drop-take p (m - p) w in
+      rw dropped (chunks_within s k (m - p) (drop p w) (omega arith))
 
   pub from_first : {A : Type 0} (from : List ℕ → A) → all_from from s k (drop p (take m w)) ≡ all_from from s k (drop p w)
   unfolding all_from
-  from_first from = rw first (read_from from refl refl)
+  from_first from = ap (map from) chunks_first
 
   pub stand_first : (stands : List ℕ → Bool) → all_stand stands s k (drop p (take m w)) ≡ all_stand stands s k (drop p w)
   unfolding all_stand
-  stand_first stands = rw first (asked_of stands refl refl)
+  stand_first stands = ap (list_all stands) chunks_first
 
 -- ---- a list stored from p on, and another after it, and one number more
 
