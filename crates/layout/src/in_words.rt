@@ -23,6 +23,7 @@ pub(crate) trait InWords<const N: usize>: Copy {
         ensures { result ≡ from words.now };
 
     // Whether some part is written as these words.
+    // By an Option from from_words a board would be left half read: parts are read in place (docs/MEASURED.md).
     fn stand(words: &[u32; N]) -> bool
         ensures { result ≡ stands words.now };
 

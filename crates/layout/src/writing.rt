@@ -24,16 +24,20 @@ pub fn put_words(w: &mut [u32], p: usize, fields: &[u32])
     }
 }
 
-// Writes the parts one after the other into the words from p on. It also tells what the parameter's type says, its
+// Writes the parts one after the other into a board's words, from word at on. It also tells what the parameter's type says, its
 // length and what fits, since reading back rests on it.
-fn put_parts<T: InWords<N>, const N: usize, const K: usize>(w: &mut [u32], p: usize, parts: &[T; K])
-    requires { p + K * N ≤ length w.old }
-    ensures written { w.new ≡ sets w.old p (flat_map T.fields parts.now) }
+fn put_parts<T: InWords<N>, const N: usize, const K: usize>(
+    w: &mut [u32; BOARD_WORDS],
+    at: usize,
+    parts: &[T; K],
+)
+    requires { at + K * N ≤ board_words }
+    ensures written { w.new ≡ sets w.old at (flat_map T.fields parts.now) }
     ensures long { length parts.now ≡ K }
     ensures fit { All T.fits parts.now }
 {
     for (k, part) in parts.iter().enumerate() {
-        put_words(w, p + k * N, &part.to_words());
+        put_words(w, at + k * N, &part.to_words());
     }
 }
 

@@ -7,4 +7,4 @@ use Rattle.layout.proofs.writing.put_parts.Given as goal
 abbrev pub invariant-loop-k : goal.invariant-loop-k
 invariant-loop-k g l =
     let m = g.T.InWords in
-    (l.w ≡ sets l.initial.w l.p (flat_map m.fields (take l.k l.parts))) × All m.fits (take l.k l.parts)
+    (l.w ≡ sets l.initial.w l.at (flat_map m.fields (take l.k l.parts))) × All m.fits (take l.k l.parts)
