@@ -24,8 +24,8 @@ pub fn put_words(w: &mut [u32], p: usize, fields: &[u32])
     }
 }
 
-// Writes the parts one after the other into a board's words, from word at on. It also tells what the parameter's type says, its
-// length and what fits, since reading back rests on it.
+// Writes the parts one after the other into a board's words, from word at on. It also tells what the parameter's type
+// says, its length and what fits, since reading back rests on it.
 fn put_parts<T: InWords<N>, const N: usize, const K: usize>(
     w: &mut [u32; BOARD_WORDS],
     at: usize,
