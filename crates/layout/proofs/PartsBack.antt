@@ -105,9 +105,6 @@ state_again (suc (suc (suc (suc zero)))) h = refl
 state_again (suc (suc (suc (suc (suc zero))))) h = refl
 state_again (suc (suc (suc (suc (suc (suc i)))))) h = absurd (omega (arith, leb-true (suc (suc (suc (suc (suc (suc i)))))) last_state h))
 
-set_back : (x : ℕ) → x < 256 → x % 256 ≡ x
-set_back x h = omega arith
-
 console_again : (u : List ℕ) → length u ≡ console_words → console_stands u ≡ true → console_fields (console_from u) ≡ u
 unfolding console_fields console_from console_stands
 console_again u long h = ext_get_or 0 (console_fields (console_from u)) u (sym long) fields
@@ -118,7 +115,7 @@ console_again u long h = ext_get_or 0 (console_fields (console_from u)) u (sym l
     fields : (k : ℕ) → k < console_words → word (console_fields (console_from u)) k ≡ word u k
     fields zero l = state_again (word u 0) (and_left (leb (word u 0) last_state) (leb (word u 2) last_set) two)
     fields (suc zero) l = refl
-    fields (suc (suc zero)) l = set_back (word u 2) (omega (arith, leb-true (word u 2) last_set (and_right (leb (word u 0) last_state) (leb (word u 2) last_set) two)))
+    fields (suc (suc zero)) l = omega (arith, leb-true (word u 2) last_set (and_right (leb (word u 0) last_state) (leb (word u 2) last_set) two))
     fields (suc (suc (suc zero))) l = refl
     fields (suc (suc (suc (suc zero)))) l = refl
     fields (suc (suc (suc (suc (suc zero))))) l = refl
@@ -129,7 +126,9 @@ pub console_laws : PartLaws console_words Byte console_from console_stands conso
 unfolding console_fields console_from console_stands
 console_laws = record {
   wide = console_wide;
-  back = λ x small. rw (state_back x.state, set_back x.answered small, flag_back x.alike);
+  back = λ x small.
+      let byte : x.answered % 256 ≡ x.answered = omega arith in
+      rw (state_back x.state, byte, flag_back x.alike);
   standing = λ x small. rw (state_stands x.state, le-leb x.answered last_set (omega arith), flag_stands x.alike);
   again = console_again;
 }

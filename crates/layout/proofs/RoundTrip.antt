@@ -1,6 +1,6 @@
 -- A board that was written is read as it was: each kind of part is (Rows), and stands after those before it.
-use Rattle.std.proofs.Common.{ℕ, ◌*◌, ◌≤◌, true, List, ◌++◌, length, drop, ◌≡◌, refl, sym, ap, ◌∙◌, arith}
-use Rattle.std.proofs.lemmas.List.{append_assoc, length-append, drop_at}
+use Rattle.std.proofs.Common.{ℕ, ◌*◌, ◌≤◌, true, List, [], ◌++◌, length, drop, ◌≡◌, refl, sym, ap, ◌∙◌, arith}
+use Rattle.std.proofs.lemmas.List.{append_assoc, append-nil, length-append, drop_at, drop_all}
 use Rattle.std.proofs.lemmas.List.Edits.{sets, sets-eq}
 use Rattle.std.proofs.Math.Seq.{length-sets}
 use Rattle.std.specs.List.{All, flat_map}
@@ -58,11 +58,12 @@ module _ (w : List ℕ) (b : Board) (h : board_words ≤ length w) (t : Typed b)
   abbrev all : List ℕ
   all = encoded w b
 
-  whole : all ≡ setup ++ nodes ++ consoles ++ cells ++ rest
-  unfolding encoded board_fields
+  whole : all ≡ board_fields b ++ rest
+  unfolding encoded
   whole = rw all_long at (sets-eq (board_fields b) w 0 (omega (arith, all_long, h)))
 
   at_cells : all ≡ setup ++ nodes ++ consoles ++ (cells ++ rest)
+  unfolding board_fields
   at_cells = whole ∙ append_assoc (setup ++ nodes ++ consoles) cells rest
 
   at_consoles : all ≡ setup ++ nodes ++ (consoles ++ (cells ++ rest))
@@ -141,10 +142,18 @@ module _ (w : List ℕ) (b : Board) (h : board_words ≤ length w) (t : Typed b)
 pub read_back : ReadBack
 read_back = written_read
 
--- so words that a board was written into kind by kind are that board's
-pub written : (w w' : List ℕ) (b : Board) → board_words ≤ length w → Typed b
+-- so as many words as a board has are the board's, once it was written into them kind by kind
+pub written : (w w' : List ℕ) (b : Board) → length w ≡ board_words → Typed b
     → w' ≡ sets (sets (sets (sets w 0 (setup_fields b.setup)) (node_offset 0) (flat_map node_fields b.nodes)) (console_offset 0) (flat_map console_fields b.consoles)) (cell_offset 0) (flat_map cell_fields b.cells)
-    → (w' ≡ encoded w b) × (decoded w' ≡ b)
+    → w' ≡ board_fields b
 written w w' b h t e =
-    let all : w' ≡ encoded w b = e ∙ by_kinds w b h t in
+    let enough : board_words ≤ length w = omega (arith, h) in
+    let none : drop board_words w ≡ [] = drop_all board_words w (omega (arith, h)) in
+    rw (none, append-nil (board_fields b)) at (e ∙ by_kinds w b enough t ∙ whole w b enough t)
+
+-- and any words are encoded and read back, once their first ones are the board's
+pub in_front : (w u : List ℕ) (b : Board) → board_words ≤ length w → Typed b → u ≡ board_fields b
+    → (u ++ drop board_words w ≡ encoded w b) × (decoded (u ++ drop board_words w) ≡ b)
+in_front w u b h t e =
+    let all : u ++ drop board_words w ≡ encoded w b = ap (λ xs. xs ++ drop board_words w) e ∙ sym (whole w b h t) in
     (all, ap decoded all ∙ read_back w b h t)

@@ -11,39 +11,38 @@ use Rattle.layout.specs.InWords.{all_from, all_stand}
 
 -- ---- the words of k parts, of s words each
 
-pub chunk_count : {X : Type 0} (s k : ℕ) (w : List X) → length (first_chunks s k w) ≡ k
-chunk_count s zero w = refl
-chunk_count s (suc k) w = ap suc (chunk_count s k (drop s w))
-
 pub fewer_chunks : {X : Type 0} (s k n : ℕ) (w : List X) → k ≤ n → take k (first_chunks s n w) ≡ first_chunks s k w
 fewer_chunks s zero n w l = refl
 fewer_chunks s (suc k) zero w l = absurd (omega arith)
 fewer_chunks s (suc k) (suc n) w l = ap (λ xs. take s w ∷ xs) (fewer_chunks s k n (drop s w) (omega arith))
 
 -- they lie in the first k * s words
-chunks_within : {X : Type 0} (s k m : ℕ) (w : List X) → k * s ≤ m → first_chunks s k (take m w) ≡ first_chunks s k w
+pub chunks_within : {X : Type 0} (s k m : ℕ) (w : List X) → k * s ≤ m → first_chunks s k (take m w) ≡ first_chunks s k w
 chunks_within s zero m w l = refl
 chunks_within s (suc k) m w l =
     let rest : m ≡ s + (m - s) = omega arith in
     let dropped : drop s (take m w) ≡ take (m - s) (drop s w) = ap (λ n. drop s (take n w)) rest ∙ drop-take s (m - s) w in
     rw (take-take s m w (omega arith), dropped, chunks_within s k (m - s) (drop s w) (omega arith))
 
--- what was read from each of the words, and asked of each
-pub read_from : {A : Type 0} (from : List ℕ → A) (s k : ℕ) (w : List ℕ) (each : List (List ℕ)) (xs : List A) → xs ≡ map from each → each ≡ first_chunks s k w → xs ≡ all_from from s k w
-unfolding all_from
-read_from from s k w each xs read e = read ∙ ap (map from) e
+-- of m words so many are left from p on
+pub rest_long : {X : Type 0} (p m : ℕ) (w : List X) → length w ≡ m → length (take (m - p) (drop p w)) ≡ m - p
+rest_long p m w h = length-take-le (m - p) (drop p w) (omega (arith, h, length-drop p w))
 
-pub asked_of : (stands : List ℕ → Bool) (s k : ℕ) (w : List ℕ) (each : List (List ℕ)) (ok : Bool) → ok ≡ list_all stands each → each ≡ first_chunks s k w → ok ≡ all_stand stands s k w
-unfolding all_stand
-asked_of stands s k w each ok asked e = asked ∙ ap (list_all stands) e
+-- k parts from p on that lie in the first m words are read from these, and stand in them, as in all the words
+module _ (s k p m : ℕ) (w : List ℕ) (l : p + k * s ≤ m) where
+  chunks_first : first_chunks s k (drop p (take m w)) ≡ first_chunks s k (drop p w)
+  chunks_first =
+      let rest : m ≡ p + (m - p) = omega arith in
+      let dropped : drop p (take m w) ≡ take (m - p) (drop p w) = ap (λ n. drop p (take n w)) rest ∙ drop-take p (m - p) w in
+      rw dropped (chunks_within s k (m - p) (drop p w) (omega arith))
 
-pub from_within : {A : Type 0} (from : List ℕ → A) (s k m : ℕ) (w : List ℕ) → k * s ≤ m → all_from from s k (take m w) ≡ all_from from s k w
-unfolding all_from
-from_within from s k m w l = ap (map from) (chunks_within s k m w l)
+  pub from_first : {A : Type 0} (from : List ℕ → A) → all_from from s k (drop p (take m w)) ≡ all_from from s k (drop p w)
+  unfolding all_from
+  from_first from = ap (map from) chunks_first
 
-pub stand_within : (stands : List ℕ → Bool) (s k m : ℕ) (w : List ℕ) → k * s ≤ m → all_stand stands s k (take m w) ≡ all_stand stands s k w
-unfolding all_stand
-stand_within stands s k m w l = ap (list_all stands) (chunks_within s k m w l)
+  pub stand_first : (stands : List ℕ → Bool) → all_stand stands s k (drop p (take m w)) ≡ all_stand stands s k (drop p w)
+  unfolding all_stand
+  stand_first stands = ap (list_all stands) chunks_first
 
 -- ---- a list stored from p on, and another after it, and one number more
 

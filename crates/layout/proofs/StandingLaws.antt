@@ -1,6 +1,7 @@
 -- What words that stand for a board give, and that it is the first words that count.
-use Rattle.std.proofs.Common.{ℕ, ◌≤◌, ◌<◌, Bool, true, false, ◌&&◌, List, length, take, drop, leb, ◌≡◌, refl, sym, arith}
-use Rattle.std.proofs.lemmas.List.{drop-take, get_or-take}
+use Rattle.std.proofs.Common.{ℕ, ◌≤◌, ◌<◌, Bool, true, false, ◌&&◌, List, length, take, drop, leb, ◌≡◌, sym, arith}
+use Rattle.std.proofs.lemmas.List.{get_or-take}
+use Rattle.std.proofs.Math.Bool.{and-false}
 use borrow.Author.Tests.{leb-true, le-leb, lt-leb}
 use Rattle.parts.proofs.FiniteLaws.{and_left, and_right}
 use Rattle.layout.specs.InWords.{all_stand}
@@ -8,11 +9,7 @@ use Rattle.layout.specs.Layout.{board_words, word, node_words, console_words, ce
 use Rattle.layout.specs.Standing.{release_stands, node_stands, console_stands, cell_stands, parts_stand, stands, decoded}
 use Rattle.board.specs.Boards.{no_board}
 use Rattle.parts.specs.Limits.{max_nodes, max_consoles, max_cells}
-use Rattle.layout.proofs.Rows.{from_within, stand_within}
-
-and_none : (x : Bool) → (x && false) ≡ false
-and_none true = refl
-and_none false = refl
+use Rattle.layout.proofs.Rows.{from_first, stand_first}
 
 module _ (w : List ℕ) where
   -- of words the first ones are read as a board
@@ -22,24 +19,18 @@ module _ (w : List ℕ) where
     get_or-take board_words w 0 0 (omega arith),
     get_or-take board_words w 1 0 (omega arith),
     get_or-take board_words w 2 0 (omega arith),
-    drop-take (node_offset 0) 236 w,
-    from_within node_from node_words max_nodes 236 (drop (node_offset 0) w) (omega arith),
-    drop-take (console_offset 0) 216 w,
-    from_within console_from console_words max_consoles 216 (drop (console_offset 0) w) (omega arith),
-    drop-take (cell_offset 0) 160 w,
-    from_within cell_from cell_words max_cells 160 (drop (cell_offset 0) w) (omega arith),
+    from_first node_words max_nodes (node_offset 0) board_words w (omega arith) node_from,
+    from_first console_words max_consoles (console_offset 0) board_words w (omega arith) console_from,
+    from_first cell_words max_cells (cell_offset 0) board_words w (omega arith) cell_from,
   )
 
   parts_first : parts_stand (take board_words w) ≡ parts_stand w
   unfolding parts_stand
   parts_first = rw (
     get_or-take board_words w 2 0 (omega arith),
-    drop-take (node_offset 0) 236 w,
-    stand_within node_stands node_words max_nodes 236 (drop (node_offset 0) w) (omega arith),
-    drop-take (console_offset 0) 216 w,
-    stand_within console_stands console_words max_consoles 216 (drop (console_offset 0) w) (omega arith),
-    drop-take (cell_offset 0) 160 w,
-    stand_within cell_stands cell_words max_cells 160 (drop (cell_offset 0) w) (omega arith),
+    stand_first node_words max_nodes (node_offset 0) board_words w (omega arith) node_stands,
+    stand_first console_words max_consoles (console_offset 0) board_words w (omega arith) console_stands,
+    stand_first cell_words max_cells (cell_offset 0) board_words w (omega arith) cell_stands,
   )
 
   -- so it is decoded from them, if they are enough and its parts stand in them
@@ -49,7 +40,7 @@ module _ (w : List ℕ) where
 
   pub first_damaged : (u : List ℕ) → u ≡ take board_words w → parts_stand u ≡ false → no_board ≡ decoded w
   unfolding decoded stands
-  first_damaged u e h = rw (sym parts_first, sym e, h, and_none (leb board_words (length w)))
+  first_damaged u e h = rw (sym parts_first, sym e, h, and-false (leb board_words (length w)))
 
   pub too_few : length w < board_words → no_board ≡ decoded w
   unfolding decoded stands

@@ -29,7 +29,7 @@ impl InWords<CONSOLE_WORDS> for Console {
         Console {
             state: state_of(state),
             wanted,
-            answered: (answered % 256) as u8,
+            answered: answered.to_le_bytes()[0],
             best: Tag { ts, console },
             value,
             alike: alike != 0,

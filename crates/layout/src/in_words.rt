@@ -1,6 +1,9 @@
 // A part of a board that stands in N words, and the words of many such parts, one after the other.
-ghost use Rattle.std.specs.Prelude.{ℕ, ◌*◌, ◌^◌, ◌<◌, ◌≤◌, Bool, List, ◌≡◌, length};
+ghost use Rattle.std.specs.Prelude.{ℕ, ◌+◌, ◌*◌, ◌^◌, ◌<◌, ◌≤◌, Bool, List, ◌≡◌, length, drop};
 ghost use Rattle.std.specs.Simd.{first_chunks};
+ghost use Rattle.layout.specs.Layout.{board_words};
+
+use crate::BOARD_WORDS;
 
 // The last number of a mark, that is of a bool.
 pub(crate) const LAST_MARK: u32 = 1;
@@ -20,6 +23,7 @@ pub(crate) trait InWords<const N: usize>: Copy {
         ensures { result ≡ from words.now };
 
     // Whether some part is written as these words.
+    // By an Option from from_words a board would be left half read: parts are read in place (docs/MEASURED.md).
     fn stand(words: &[u32; N]) -> bool
         ensures { result ≡ stands words.now };
 
@@ -31,11 +35,14 @@ pub(crate) trait InWords<const N: usize>: Copy {
     ghost wide: { (x : Self) → length (fields x) ≡ N };
 }
 
-// The words of each of the first K parts.
-pub(crate) fn words_of_each<const N: usize, const K: usize>(w: &[u32]) -> &[[u32; N]; K]
+// The words of each of K parts, from a board's word at on.
+pub(crate) fn words_of_each<const N: usize, const K: usize>(
+    w: &[u32; BOARD_WORDS],
+    at: usize,
+) -> &[[u32; N]; K]
     requires some { (0 < N) × (N < 2 ^ 32) }
-    requires enough { K * N ≤ length w.now }
-    ensures { result.now ≡ first_chunks N K w.now }
+    requires enough { at + K * N ≤ board_words }
+    ensures { result.now ≡ first_chunks N K (drop at w.now) }
 {
-    w.as_chunks::<N>().0.first_chunk::<K>().unwrap()
+    w[at..].as_chunks::<N>().0.first_chunk::<K>().unwrap()
 }

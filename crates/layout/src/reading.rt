@@ -16,6 +16,7 @@ fn read_parts<T: InWords<N>, const N: usize, const K: usize>(
 )
     ensures { parts.new ≡ map T.from each.now }
 {
+    // By parts.iter_mut().zip(each), as was tried, a proof has no fact of what the parts end as, only of their number.
     for (k, words) in each.iter().enumerate() {
         parts[k] = T::from_words(words);
     }
@@ -26,9 +27,9 @@ fn read_board(board: &mut Board, w: &[u32; BOARD_WORDS])
     ensures { board.new ≡ board_in w.now }
 {
     board.setup = setup_from(w);
-    read_parts(&mut board.nodes, words_of_each(&w[NODES_AT..]));
-    read_parts(&mut board.consoles, words_of_each(&w[CONSOLES_AT..]));
-    read_parts(&mut board.cells, words_of_each(&w[CELLS_AT..]));
+    read_parts(&mut board.nodes, words_of_each(w, NODES_AT));
+    read_parts(&mut board.consoles, words_of_each(w, CONSOLES_AT));
+    read_parts(&mut board.cells, words_of_each(w, CELLS_AT));
 }
 
 // The board in the first words. Words that stand for no board, too few of them too, are read as one that is not well

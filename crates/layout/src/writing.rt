@@ -2,7 +2,7 @@
 ghost use Rattle.std.specs.Prelude.{◌≡◌, ◌+◌, ◌*◌, ◌≤◌, ◌<◌, length};
 ghost use Rattle.std.specs.List.{All, flat_map};
 ghost use Rattle.std.proofs.lemmas.List.Edits.{sets};
-ghost use Rattle.layout.specs.Layout.{board_words, encoded};
+ghost use Rattle.layout.specs.Layout.{Typed, board_fields, board_words, encoded};
 ghost use Rattle.layout.specs.Standing.{decoded};
 
 use crate::in_words::InWords;
@@ -24,24 +24,27 @@ pub fn put_words(w: &mut [u32], p: usize, fields: &[u32])
     }
 }
 
-// Writes the parts one after the other into the words from p on. It also tells what the parameter's type says, its
-// length and what fits, since reading back rests on it.
-fn put_parts<T: InWords<N>, const N: usize, const K: usize>(w: &mut [u32], p: usize, parts: &[T; K])
-    requires { p + K * N ≤ length w.old }
-    ensures written { w.new ≡ sets w.old p (flat_map T.fields parts.now) }
+// Writes the parts one after the other into a board's words, from word at on. It also tells what the parameter's type
+// says, its length and what fits, since reading back rests on it.
+fn put_parts<T: InWords<N>, const N: usize, const K: usize>(
+    w: &mut [u32; BOARD_WORDS],
+    at: usize,
+    parts: &[T; K],
+)
+    requires { at + K * N ≤ board_words }
+    ensures written { w.new ≡ sets w.old at (flat_map T.fields parts.now) }
     ensures long { length parts.now ≡ K }
     ensures fit { All T.fits parts.now }
 {
-    let mut at = p;
-    for part in parts {
-        put_words(w, at, &part.to_words());
-        at += N;
+    for (k, part) in parts.iter().enumerate() {
+        put_words(w, at + k * N, &part.to_words());
     }
 }
 
-fn put_board(w: &mut [u32], b: Board)
-    requires { board_words ≤ length w.old }
-    ensures { (w.new ≡ encoded w.old b) × (decoded w.new ≡ b) }
+// Writes the board over the words. It also tells what the board's type says, since reading back rests on it.
+fn put_board(w: &mut [u32; BOARD_WORDS], b: Board)
+    ensures written { w.new ≡ board_fields b }
+    ensures typed { Typed b }
 {
     put_words(w, 0, &setup_words(b.setup));
     put_parts(w, NODES_AT, &b.nodes);
@@ -54,7 +57,7 @@ fn put_board(w: &mut [u32], b: Board)
 pub fn encode(w: &mut [u32], b: Board)
     ensures { (board_words ≤ length w.old → (w.new ≡ encoded w.old b) × (decoded w.new ≡ b)) × (length w.old < board_words → w.new ≡ w.old) }
 {
-    if w.len() >= BOARD_WORDS {
-        put_board(w, b);
+    if let Some(words) = w.first_chunk_mut::<BOARD_WORDS>() {
+        put_board(words, b);
     }
 }
