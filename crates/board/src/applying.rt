@@ -1,4 +1,5 @@
-// What is decided of console c and node k, done on the board. A place beyond the lists stores nothing.
+// What is decided of console c and node k, done on the board. A place beyond the lists stores nothing. (The casts: cells.rt of
+// parts.)
 ghost use Rattle.std.specs.Prelude.{◌≡◌, set};
 ghost use Rattle.board.specs.Applied.{with_sent, with_part, applied};
 ghost use Rattle.board.specs.Boards.{with_frame, with_row};

@@ -9,7 +9,7 @@ use refusals::Refusal;
 use std::cmp::Ordering;
 
 // Document 01's board. Any value of this type may be handed in: one that is not well formed is refused by question 1.
-// The cell of console c and node k is cells[c * 5 + k].
+// The cell of console c and node k is cells[c * 5 + k]. (Casts: a constant can call no From.)
 #[derive(Clone, Copy)]
 pub struct Board {
     pub setup: Setup,

@@ -1,4 +1,4 @@
-// The steps but for deliver: begin read, begin write, node down, node up, console down. Each does on the board what is decided of its
+// The steps but for fresh and deliver: begin read, begin write, node down, node up, console down. Each does on the board what is decided of its
 // console or its node; the board goes in and the next one comes back in the answer. Beside each is the same step for a caller who knows
 // whether the board is well formed, so that question 1 need not be asked. That stays a parameter and is no fact of a type: a public step
 // asks nothing of its caller. verbs has the type (Checked).

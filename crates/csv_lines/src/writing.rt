@@ -1,5 +1,6 @@
 // Writing a line into a lent output by a pen, which holds the output and its running place. All else there stays as it
-// was. A call has seen that there is room, but for put_line, which others call: it sees to that itself.
+// was. A call has seen that there is room, but for put_line, which others call: it sees to that itself. How much room
+// differs from call to call, so that it is no fact of the pen.
 ghost use Rattle.std.specs.Prelude.{◌∷◌, ◌≡◌, ◌+◌, ◌*◌, ◌<◌, ◌≤◌, length};
 ghost use Rattle.std.proofs.lemmas.List.Edits.{sets};
 ghost use Rattle.csv_lines.specs.Pens.{HasRoom, Wrote};
@@ -71,7 +72,8 @@ impl Pen<'_> {
     }
 }
 
-// An output line where there is room for LINE_BYTES. Elsewhere nothing is written, and what is answered is left open.
+// An output line where there is room for LINE_BYTES. Elsewhere nothing is written, and what is answered is left open. It is
+// public: the output and the place stay two parameters.
 #[tactic(auto, unfolding(crate::specs::Writing::line_text))]
 pub fn put_line(out: &mut [u8], at: usize, line: Output) -> usize
     ensures with_room { at + line_bytes ≤ length out.old → (result ≤ at + line_bytes) × (result ≡ at + length (line_text line)) × (out.new ≡ sets out.old at (line_text line)) }

@@ -26,7 +26,7 @@ pub enum Refusal {
 impl From<Refusal> for u32 {
     ghost from_gives = { λ refusal number. number ≡ number_of refusal };
 
-    // The number that a refusal is written as.
+    // The number that a refusal is written as. The cast is how an enum's own numbers are read.
     fn from(refusal: Refusal) -> u32 {
         refusal as u32
     }

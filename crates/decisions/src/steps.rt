@@ -48,7 +48,7 @@ pub fn rise(formed: bool, setup: Setup, k: NodeId, y: Node) -> Decision
     switch(formed, setup, k, y, true)
 }
 
-// Node k, which is y, comes back or goes down.
+// Node k, which is y, comes back or goes down: the two differ in one question and one bool, for which a flag is enough.
 #[tactic(auto, unfolding(crate::specs::Steps::falls, crate::specs::Steps::rises, crate::specs::Questions::guarded))]
 fn switch(formed: bool, setup: Setup, k: NodeId, y: Node, up: bool) -> Decision
     ensures { result ≡ cond up (rises formed setup k.0 y) (falls formed setup k.0 y) }
@@ -63,7 +63,7 @@ fn switch(formed: bool, setup: Setup, k: NodeId, y: Node, up: bool) -> Decision
     done(Part::NodeTo(set_up(y, up)), Sent::Keep)
 }
 
-// The same of a step that takes no reply in, with outcome done.
+// A step that is accepted with outcome done, and took no reply in.
 fn done(part: Part, sent: Sent) -> Decision
     ensures { result ≡ accept None Outcome.Done part sent }
 {

@@ -28,7 +28,7 @@ fn told_tag(c: ConsoleId, x: Console) -> Tag
     }
 }
 
-// The value to tell: a write's wanted value, a read's best.
+// The value to tell: a write's wanted value, a read's best. Tag and value come apart, as in the definition.
 fn told_value(x: Console) -> u32
     ensures { result ≡ cond (writes x.state) x.wanted x.value }
 {

@@ -15,7 +15,7 @@ use layout::writing::{encode, put_words};
 use parts::outcomes::compared_number;
 use parts::{ConsoleId, NodeId, Release};
 
-// Writes the answer into six words from p on. The caller has seen that they are there.
+// Writes the answer into six words from p on, as put_words takes words and place. The caller has seen that they are there.
 #[tactic(auto, unfolding(crate::specs::Calls::put_answer, crate::specs::Calls::answer_fields))]
 pub(crate) fn put_answer(s: &mut [u32], p: usize, a: Answer)
     requires { p + answer_words ≤ length s.old }

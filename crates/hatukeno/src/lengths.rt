@@ -22,6 +22,7 @@ pub(crate) enum Short {
 impl From<Short> for u32 {
     ghost from_gives = { λ short number. number ≡ returned_by (Err short) };
 
+    // The cast is how an enum's own numbers are read.
     fn from(short: Short) -> u32 {
         short as u32
     }

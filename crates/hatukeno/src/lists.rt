@@ -13,7 +13,8 @@ use layout::reading::decode;
 use layout::writing::encode;
 use verbs::Checked;
 
-// Puts the steps to the board b, with their answers into s. The caller has seen that s reaches for them.
+// Puts the steps to the board b, with their answers into s. The caller has seen that s reaches for them. An answer's place
+// is counted, since std says nothing of what a slice's `as_chunks_mut` leaves behind.
 fn run_steps(q: &[u32], s: &mut [u32], b: Board) -> Midway
     requires { steps_in (length q.now) * answer_words ≤ length s.old }
     ensures { (result ≡ midway q.now b (steps_in (length q.now))) × (s.new ≡ answers q.now b s.old (steps_in (length q.now))) }
@@ -33,7 +34,7 @@ fn run_steps(q: &[u32], s: &mut [u32], b: Board) -> Midway
 }
 
 // Puts the list to the board in w, with the answers into s and the last board back into w. The caller has seen to the
-// lengths.
+// lengths. The words stay a slice, as decode and encode take them.
 #[tactic(auto, unfolding(crate::specs::Lists::kept_after))]
 fn run_list(w: &mut [u32], q: &[u32], s: &mut [u32])
     requires { (board_words ≤ length w.old) × (steps_in (length q.now) * answer_words ≤ length s.old) }

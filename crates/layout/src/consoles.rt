@@ -29,6 +29,7 @@ impl InWords<CONSOLE_WORDS> for Console {
         Console {
             state: state_of(state),
             wanted,
+            // The word's lowest byte: std has no From of u32 for u8.
             answered: answered.to_le_bytes()[0],
             best: Tag { ts, console },
             value,

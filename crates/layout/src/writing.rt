@@ -11,7 +11,7 @@ use crate::{BOARD_WORDS, CELLS_AT, CONSOLES_AT, NODES_AT};
 use board::Board;
 
 // Writes the fields into the words from p on. Words that do not reach so far are left as they are. Nothing is added to
-// p before that is known, since the sum may be too large for a usize.
+// p before that is known, since the sum may be too large for a usize. It is public: words and place stay two parameters.
 pub fn put_words(w: &mut [u32], p: usize, fields: &[u32])
     ensures { (p + length fields.now ≤ length w.old → w.new ≡ sets w.old p fields.now) × (length w.old < p + length fields.now → w.new ≡ w.old) }
 {
@@ -25,7 +25,8 @@ pub fn put_words(w: &mut [u32], p: usize, fields: &[u32])
 }
 
 // Writes the parts one after the other into a board's words, from word at on. It also tells what the parameter's type
-// says, its length and what fits, since reading back rests on it.
+// says, its length and what fits, since reading back rests on it. A part's place is counted, since std says nothing of what
+// `as_chunks_mut` leaves behind.
 fn put_parts<T: InWords<N>, const N: usize, const K: usize>(
     w: &mut [u32; BOARD_WORDS],
     at: usize,

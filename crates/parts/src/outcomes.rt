@@ -28,7 +28,8 @@ impl Outcome {
         }
     }
 
-    // The final tag of a finished operation; (0, 0) with any other outcome.
+    // The final tag of a finished operation; (0, 0) with any other outcome. It and the value come apart, as their
+    // definitions do.
     pub fn tag(self) -> Tag
         ensures { result ≡ outcome_tag self }
     {

@@ -13,7 +13,7 @@ use memchr::memchr;
 use verbs::Checked;
 
 // The board, the number of the line, what is held of it at the start of the lent line, and the lent output with its
-// running place.
+// running place. Each buffer stands with its count here, and the methods alone move them.
 #[derive(Drop)]
 pub(crate) struct Run<'a> {
     pub checked: Checked,

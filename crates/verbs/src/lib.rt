@@ -18,7 +18,7 @@ pub fn step_of(b: Board, verb: u32, x: u32, y: u32) -> Answer
 }
 
 // The same for a caller who knows whether the board is well formed. A match on small numbers, each arm one step: document
-// 01 names this form.
+// 01 names this form. That it is known stays a parameter, as in board (steps.rt): Checked has the fact in its type.
 #[tactic(auto, unfolding(crate::specs::Verbs::step_of))]
 pub fn step_known(b: Board, formed: bool, verb: u32, x: u32, y: u32) -> Answer
     ensures { formed ≡ well_formed b → result ≡ step_of verb x y b }

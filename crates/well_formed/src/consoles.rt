@@ -43,7 +43,7 @@ fn is_state_ok(setup: Setup, x: Console, s: State) -> bool
     }
 }
 
-// Whether a console in state s may have its mark as it is.
+// Whether a console in state s may have its mark as it is. The state is a parameter of its own, as in the definitions.
 #[tactic(auto, unfolding(crate::specs::Clauses::mark_ok))]
 fn is_mark_ok(x: Console, s: State) -> bool
     ensures { result ≡ mark_ok x s }
@@ -70,6 +70,7 @@ fn is_console_ok(setup: Setup, c: ConsoleId, x: Console) -> bool
     }
 }
 
+// Console by console. (The cast: cells.rt of parts.)
 pub fn are_consoles_ok(setup: Setup, consoles: [Console; CONSOLES]) -> bool
     ensures { result ≡ consoles_ok setup consoles }
 {
