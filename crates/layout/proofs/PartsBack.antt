@@ -14,7 +14,8 @@ use Rattle.parts.specs.Finite.{one}
 use Rattle.parts.specs.Parts.{cell_of}
 use Rattle.parts.proofs.FiniteLaws.{and_left, and_right}
 use Rattle.layout.proofs.Rows.{PartLaws}
-use Rattle.layout.specs.Layout.{Byte, word, node_words, console_words, cell_words, tag_of, release_of, node_from, state_of, console_from, frame_of, cell_from, release_number, node_fields, node_wide, state_number, console_fields, console_wide, frame_number, frame_tag, frame_value, cell_fields, cell_wide}
+use Rattle.layout.specs.Layout.{Byte, word, node_words, console_words, cell_words, tag_of, release_of, node_from, state_of, console_from, frame_of, cell_from, release_number, node_fields, state_number, console_fields, frame_number, frame_tag, frame_value, cell_fields}
+use Rattle.layout.specs.Wide.{node_wide, console_wide, cell_wide}
 use Rattle.layout.specs.Standing.{last_state, last_frame, last_set, last_mark, release_stands, node_stands, console_stands, frame_stands, cell_stands}
 
 -- ---- marks and releases

@@ -8,7 +8,8 @@ use borrow.Author.Tests.{le-leb}
 use Rattle.parts.specs.Limits.{max_nodes, max_consoles, max_cells}
 use Rattle.board.specs.declared.Board.{Board}
 use Rattle.layout.specs.InWords.{all_from, all_stand}
-use Rattle.layout.specs.Layout.{Typed, board_words, setup_words, word, node_words, console_words, cell_words, node_offset, console_offset, cell_offset, setup_from, node_from, console_from, cell_from, board_in, setup_fields, node_fields, node_wide, console_wide, cell_wide, console_fields, cell_fields, board_fields, encoded}
+use Rattle.layout.specs.Layout.{Typed, board_words, setup_words, word, node_words, console_words, cell_words, node_offset, console_offset, cell_offset, setup_from, node_from, console_from, cell_from, board_in, setup_fields, node_fields, console_fields, cell_fields, board_fields, encoded}
+use Rattle.layout.specs.Wide.{node_wide, console_wide, cell_wide}
 use Rattle.layout.specs.Standing.{release_stands, node_stands, console_stands, cell_stands, parts_stand, stands, decoded}
 use Rattle.layout.proofs.PartsBack.{release_back, release_standing, node_laws, console_laws, cell_laws}
 use Rattle.layout.specs.Claims.{ReadBack}

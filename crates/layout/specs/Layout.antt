@@ -1,6 +1,6 @@
 -- A board in words of 32 bits: n, m and the release, then so many words for each node, console and cell; how it is read
 -- from them, and how it is written into them.
-use Rattle.std.specs.Prelude.{ℕ, zero, suc, ◌+◌, ◌*◌, ◌%◌, ◌<◌, cond, not, List, [], ◌∷◌, ◌++◌, ◌≡◌, refl, eqb, length, get_or, drop}
+use Rattle.std.specs.Prelude.{ℕ, zero, suc, ◌+◌, ◌*◌, ◌%◌, ◌<◌, cond, not, List, [], ◌∷◌, ◌++◌, ◌≡◌, eqb, length, get_or, drop}
 use Rattle.std.specs.List.{All, flat_map}
 use Rattle.std.proofs.lemmas.List.Edits.{sets}
 use Rattle.parts.specs.declared.Release.{Release}
@@ -164,20 +164,6 @@ board_fields b = setup_fields b.setup ++ flat_map node_fields b.nodes ++ flat_ma
 -- the words with the board in the first of them
 unfoldable pub encoded : List ℕ → Board → List ℕ
 encoded w b = sets w 0 (board_fields b)
-
--- ---- each kind has as many fields as words
-
-pub node_wide : (x : Node) → length (node_fields x) ≡ node_words
-unfolding node_fields
-node_wide x = refl
-
-pub console_wide : (x : Console) → length (console_fields x) ≡ console_words
-unfolding console_fields
-console_wide x = refl
-
-pub cell_wide : (x : Cell) → length (cell_fields x) ≡ cell_words
-unfolding cell_fields
-cell_wide x = refl
 
 -- ---- what a board's type says, and reading back rests on
 

@@ -2,6 +2,7 @@
 -- for a board, and what is claimed of both.
 pub mod InWords
 pub mod Layout
+pub mod Wide
 pub mod Standing
 pub mod Claims
 pub mod Header

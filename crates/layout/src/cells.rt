@@ -1,6 +1,7 @@
 // A cell in words: its frame's number, and the frame's tag and value, or zeros.
 ghost use Rattle.std.specs.Prelude.{◌≡◌};
-ghost use Rattle.layout.specs.Layout.{frame_of, frame_number, frame_tag, frame_value, cell_from, cell_fields, cell_wide};
+ghost use Rattle.layout.specs.Layout.{frame_of, frame_number, frame_tag, frame_value, cell_from, cell_fields};
+ghost use Rattle.layout.specs.Wide.{cell_wide};
 ghost use Rattle.layout.specs.Standing.{cell_stands};
 
 use crate::CELL_WORDS;

@@ -1,6 +1,7 @@
 // A console in words: state, wanted, answered, ts and console of the best tag, value and mark.
 ghost use Rattle.std.specs.Prelude.{◌≡◌};
-ghost use Rattle.layout.specs.Layout.{state_of, state_number, console_from, console_fields, console_wide, Byte};
+ghost use Rattle.layout.specs.Layout.{state_of, state_number, console_from, console_fields, Byte};
+ghost use Rattle.layout.specs.Wide.{console_wide};
 ghost use Rattle.layout.specs.Standing.{console_stands};
 
 use crate::CONSOLE_WORDS;

@@ -1,5 +1,6 @@
 // A node in words: up, ts, console and value.
-ghost use Rattle.layout.specs.Layout.{node_from, node_fields, node_wide};
+ghost use Rattle.layout.specs.Layout.{node_from, node_fields};
+ghost use Rattle.layout.specs.Wide.{node_wide};
 ghost use Rattle.layout.specs.Standing.{node_stands};
 
 use crate::NODE_WORDS;
