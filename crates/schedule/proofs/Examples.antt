@@ -31,6 +31,8 @@ examples =
     -- a refused fresh leaves the board of two nodes; an unknown verb is refused before question 4, and a line that is not three fields
     -- before that
     ∷ ("0,2,1\n0,6,1\n4,1,0\n7,9,9\n7,9\n" prints "1,0,1,0,0,0\n2,2,0,0,0,0\n3,0,1,0,0,0\n4,12,0,0,0,0\n5,11,0,0,0,0\n")
+    -- of 64 bytes a line is read; of 65 it is too long, and that comes before what it says
+    ∷ ("0,1,000000000000000000000000000000000000000000000000000000000001\n0,1,0000000000000000000000000000000000000000000000000000000000001\n" prints "1,0,1,0,0,0\n2,13,0,0,0,0\n")
     -- an ask waits for a node that is down, and is handed over once it has come back; a second node up and one of no node are refused
     ∷ ("1,0,0\n4,0,0\n3,0,0\n6,0,9\n6,0,9\n6,1,0\n3,0,0\n" prints "1,0,1,0,0,0\n2,0,1,0,0,0\n3,9,0,0,0,0\n4,0,1,0,0,0\n5,14,0,0,0,0\n6,5,0,0,0,0\n7,0,2,0,0,0\n")
     -- a write has turned when its console goes down: the put is discarded, though the node is down
