@@ -8,8 +8,7 @@ use std::io;
 use std::path::Path;
 
 pub struct Batch<'a> {
-    /// The crate.
-    pub of: &'a str,
+    pub crate_name: &'a str,
     tries: Vec<Try<'a>>,
 }
 
@@ -28,7 +27,7 @@ pub fn batches<'a>(crates: &Path, edits: &'a [Edit]) -> io::Result<Vec<Batch<'a>
         match batches.iter_mut().find(|it| it.has_room_for(&tried)) {
             Some(batch) => batch.tries.push(tried),
             None => batches.push(Batch {
-                of: &edit.of,
+                crate_name: &edit.crate_name,
                 tries: vec![tried],
             }),
         }
@@ -43,7 +42,7 @@ impl Batch<'_> {
             return false;
         };
         let is_other = |it: &Try| it.function.as_ref().is_some_and(|it| it.name != function.name);
-        self.of == tried.edit.of && self.tries.iter().all(is_other)
+        self.crate_name == tried.edit.crate_name && self.tries.iter().all(is_other)
     }
 
     /// Puts the edits into their crate, which lies in the folder, and forgets those that do not fit.
@@ -65,7 +64,7 @@ impl Batch<'_> {
         }
         for tried in &self.tries {
             if let Some(why) = refusal(said, tried.edit, tried.function.as_ref()) {
-                println!("must-fail {}/{}: refused, as it must be: {why}", self.of, tried.edit.name);
+                println!("must-fail {}/{}: refused, as it must be: {why}", self.crate_name, tried.edit.name);
             }
         }
     }

@@ -6,8 +6,8 @@ use std::path::Path;
 use std::{fs, io};
 
 pub struct Edit {
-    /// The crate that it changes, which the edit's folder is named after.
-    pub of: String,
+    /// The edit's folder is named after the crate that it changes.
+    pub crate_name: String,
     pub name: String,
     changes: Vec<Change>,
 }
@@ -36,7 +36,7 @@ impl Edit {
             }
         }
         Ok(Edit {
-            of: named(path.parent()),
+            crate_name: named(path.parent()),
             name: named(Some(path)),
             changes,
         })
@@ -72,7 +72,7 @@ impl Edit {
         if !file.starts_with("src/") || self.changes.iter().any(|it| it.file != file) {
             return Ok(None);
         }
-        let text = fs::read_to_string(crates.join(&self.of).join(file))?;
+        let text = fs::read_to_string(crates.join(&self.crate_name).join(file))?;
         let mut functions = self.changes.iter().map(|it| Function::around(&it.old, &text));
         let first = functions.next().flatten();
         let is_one = functions.all(|it| it == first);
@@ -82,14 +82,14 @@ impl Edit {
 
 #[cfg(test)]
 impl Edit {
-    pub fn of_one(of: &str, file: &str) -> Edit {
+    pub fn of_one(file: &str) -> Edit {
         let change = Change {
             file: file.to_owned(),
             old: "old".to_owned(),
             new: "new".to_owned(),
         };
         Edit {
-            of: of.to_owned(),
+            crate_name: "decisions".to_owned(),
             name: "one.edit".to_owned(),
             changes: vec![change],
         }

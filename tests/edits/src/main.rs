@@ -18,6 +18,8 @@ use std::{env, fs, io, thread};
 
 /// Each worker keeps a core and up to two gigabytes busy.
 const MOST_WORKERS: usize = 4;
+/// The status of a check that refused something; 3 is that of one that could not tell.
+const REFUSED: i32 = 1;
 
 fn main() -> io::Result<()> {
     let mut arguments = env::args_os().skip(1).map(PathBuf::from);
@@ -41,12 +43,15 @@ fn work<'a>(own: &Path, next: impl Fn() -> Option<Batch<'a>>) -> io::Result<()> 
     fs::copy("crates.txt", own.join("crates.txt"))?;
     copy(Path::new("crates"), &own.join("crates"))?;
     while let Some(mut batch) = next() {
-        let (crate_, room) = (Path::new("crates").join(batch.of), own.join("crates").join(batch.of));
+        let name = batch.crate_name;
+        let room = own.join("crates").join(name);
         batch.put_into(&room)?;
         let checked = Command::new("rt").args(["check", "--jobs", "1"]).current_dir(&room).output()?;
-        batch.print_refused(&String::from_utf8_lossy(&checked.stdout));
+        if checked.status.code() == Some(REFUSED) {
+            batch.print_refused(&String::from_utf8_lossy(&checked.stdout));
+        }
         fs::remove_dir_all(&room)?;
-        copy(&crate_, &room)?;
+        copy(&Path::new("crates").join(name), &room)?;
     }
     fs::remove_dir_all(own)
 }

@@ -7,6 +7,8 @@ use crate::function::Function;
 const OF_GOALS: [&str; 2] = ["it is not proved that", "`search` found no proof"];
 /// What it says of a proof that names what an edit took away, and of what rests on it: little of the contract.
 const OF_NAMES: [&str; 4] = ["has no field", "is not in scope", "has no `", "was not admitted"];
+/// What it says where it could not tell.
+const OF_LIMITS: [&str; 3] = ["ran out of", "the memory limit", "the step limit"];
 
 /// Whether it came to a verdict, and read all texts but proofs: of a text that is not read, what rests on it is refused.
 pub fn is_verdict(said: &str) -> bool {
@@ -26,10 +28,10 @@ fn is_of(line: &str, edit: &Edit, function: Option<&Function>) -> bool {
     };
     let has = |words: &[&str]| words.iter().any(|it| told.contains(it));
     let is_goal = path.starts_with("src/") && has(&OF_GOALS);
-    let is_error = path.starts_with("proofs/") && told.starts_with(" error") && !has(&OF_NAMES);
+    let is_error = path.starts_with("proofs/") && told.starts_with(" error") && !has(&OF_NAMES) && !has(&OF_LIMITS);
     let is_its_own = match function {
         None => is_goal || !edit.changes_file(path),
-        Some(it) if is_error => path.contains(&format!("/{}/", it.name)),
+        Some(it) if is_error => path.rsplit('/').nth(1) == Some(&it.name),
         Some(it) => edit.changes_file(path) && it.lines.contains(&at),
     };
     (is_goal || is_error) && is_its_own
@@ -60,10 +62,11 @@ mod tests {
 
     const GOAL: &str = "note: src/nodes.rt:18:1: it is not proved that what the function ensures holds when it returns (`returns`)";
     const ERROR: &str = "./proofs/nodes/take_put/Answers.antt:7:9: error: `returns`: `omega`: the goal does not follow";
+    const LIMIT: &str = "./proofs/nodes/take_put/Answers.antt:7:9: error: `returns`: antt ran out of the steps that it may take";
     const NAME: &str = "./proofs/nodes/take_put/Answers.antt:7:9: error: `returns`: `when` was not admitted";
 
     fn of_take_put(file: &str, line: &str) -> bool {
-        let edit = Edit::of_one("decisions", file);
+        let edit = Edit::of_one(file);
         let take_put = Function {
             name: "take_put".to_owned(),
             lines: 17..=29,
@@ -78,15 +81,18 @@ mod tests {
         assert!(!of_take_put("src/hearing.rt", GOAL));
         assert!(!of_take_put("src/nodes.rt", &GOAL.replace(":18:", ":30:")));
         assert!(!of_take_put("src/nodes.rt", &ERROR.replace("take_put", "set_up")));
+        assert!(!of_take_put("src/nodes.rt", &ERROR.replace("take_put/", "take_put/inner/")));
         assert!(!of_take_put("src/nodes.rt", NAME));
+        assert!(!of_take_put("src/nodes.rt", LIMIT));
     }
 
     #[test]
     fn an_edit_alone_is_refused_by_any_goal_or_proof() {
-        let is_refused = |line: &str| refusal(line, &Edit::of_one("decisions", "specs/Changes.antt"), None).is_some();
+        let is_refused = |line: &str| refusal(line, &Edit::of_one("specs/Changes.antt"), None).is_some();
         assert!(is_refused(GOAL));
         assert!(is_refused(ERROR));
         assert!(!is_refused(NAME));
+        assert!(!is_refused(LIMIT));
         assert!(!is_refused("fn decisions::nodes::take_put: proved"));
     }
 
