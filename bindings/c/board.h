@@ -10,11 +10,13 @@
  *              3 m is not from 1 to 8           8 there is no frame between console and node
  *              4 there is no such console       9 the node is down
  *              5 there is no such node         10 there is no higher timestamp for the write
- *             14 the node is up
+ *             14 the node is up                15 the console is up
+ *             16 the console has no life left
  *   said[2], said[3], said[4]  the tag's ts and console, and the value, if it has finished; else 0
  *   said[5]  how the tag of a reply that was taken in compares with the best the console had before, (0, 0) for the first
  *            reply of an asking: 1 lower, 2 same, 3 higher; 0 for a refused step and one that takes no reply in. A read that
  *            a reply finishes (release 2) says it of that reply
+ *   said[6]  the tag's life, if it has finished; else 0
  *
  * If the step is accepted the next board is written back; if it is refused nothing of the lent board is written.
  *
@@ -24,6 +26,10 @@
  *
  * A console that goes down leaves its frames in their cells. Delivering one of them gives discarded, whether the node is up or
  * down: the cell empties and nothing else changes, so a put of such a console reaches no node.
+ *
+ * A console that is down can be restarted: it is idle again, its cells are empty, and its life is one higher. On a
+ * fresh board each life is 0; the last is 1000. A write's tag carries the life of its console, so that no two writes of
+ * a console have one tag. Tags go by the ts, then by the console, then by the life.
  *
  * board_run puts a whole list of steps to a board, one after the other: STEP_WORDS words for a step, its number (below) and
  * its two numbers in the order in which the step's own call takes them; a second number that the step does not take is
@@ -41,27 +47,41 @@
  *
  *   0, 1     n and m
  *   2        the release, 1 or 2
- *   3 on     four for each of 5 nodes: up (1; 0 is down), ts, console, value
- *   23 on    seven for each of 8 consoles: state (0 idle, 1 asking to read, 2 asking to write, 3 telling to read, 4
- *            telling to write, 5 down), wanted value, answered set (bit k is node k), best ts, best console, best
- *            value, the mark 'all alike so far' (0 or 1; it is on from the first answer of an asking while every answer has
- *            carried one tag)
- *   79 on    four for each of 40 cells, at console times 5 plus node: frame (0 nothing, 1 ask, 2 reply, 3 put, 4 ack),
- *            ts, console, value; the last three are 0 but for a reply and a put
+ *   3        the version of this layout, BOARD_LAYOUT
+ *   4 on     four for each of 5 nodes: up (1; 0 is down), ts, owner, value
+ *   24 on    eight for each of 8 consoles: state (0 idle, 1 asking to read, 2 asking to write, 3 telling to read, 4
+ *            telling to write, 5 down), wanted value, answered set (bit k is node k), best ts, best owner, best value,
+ *            the mark 'all alike so far' (0 or 1; it is on from the first answer of an asking while every answer has
+ *            carried one tag), the console's own life
+ *   88 on    four for each of 40 cells, at console times 5 plus node: frame (0 nothing, 1 ask, 2 reply, 3 put, 4 ack),
+ *            ts, owner, value; the last three are 0 but for a reply and a put
  *
- * Any other number in the place of a release, an up, a state, a mark or a frame, a set above 255, and anything but 0
- * beside a frame without a tag make them no board's. */
+ * The owner of a tag is its console times 65536 plus its life.
+ *
+ * Any other number in the place of a release, the version, an up, a state, a mark or a frame, a set above 255, a
+ * console's own life above 65535, and anything but 0 beside a frame without a tag make them no board's. Version 1 of
+ * the layout, without lives, has 239 words: they are shorter than a board, so every call returns 1. */
 #ifndef BOARD_H
 #define BOARD_H
 
 #include <stddef.h>
 #include <stdint.h>
 
-#define BOARD_WORDS (3 + 5 * 4 + 8 * 7 + 40 * 4)
-#define ANSWER_WORDS 6
+#define BOARD_WORDS (4 + 5 * 4 + 8 * 8 + 40 * 4)
+#define BOARD_LAYOUT 2
+#define ANSWER_WORDS 7
 #define STEP_WORDS 3
 
-enum { STEP_FRESH, STEP_BEGIN_READ, STEP_BEGIN_WRITE, STEP_DELIVER, STEP_NODE_DOWN, STEP_CONSOLE_DOWN, STEP_NODE_UP };
+enum {
+    STEP_FRESH,
+    STEP_BEGIN_READ,
+    STEP_BEGIN_WRITE,
+    STEP_DELIVER,
+    STEP_NODE_DOWN,
+    STEP_CONSOLE_DOWN,
+    STEP_NODE_UP,
+    STEP_RESTART
+};
 
 #ifdef __cplusplus
 extern "C" {
@@ -75,6 +95,7 @@ uint32_t board_deliver(uint32_t *words, size_t words_len, uint32_t *said, size_t
 uint32_t board_node_down(uint32_t *words, size_t words_len, uint32_t *said, size_t said_len, uint32_t node);
 uint32_t board_console_down(uint32_t *words, size_t words_len, uint32_t *said, size_t said_len, uint32_t console);
 uint32_t board_node_up(uint32_t *words, size_t words_len, uint32_t *said, size_t said_len, uint32_t node);
+uint32_t board_restart(uint32_t *words, size_t words_len, uint32_t *said, size_t said_len, uint32_t console);
 uint32_t board_run(uint32_t *words, size_t words_len, const uint32_t *steps, size_t steps_len, uint32_t *said, size_t said_len);
 
 #ifdef __cplusplus

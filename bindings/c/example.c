@@ -1,5 +1,6 @@
 /* Console 1 of 2 writes 7 on three nodes; nodes 0 and 2 are a majority, so the write finishes without node 1, which then goes down
- * and comes back. Then a read under release 2. Ends with 0 if every answer is the one that is written here. */
+ * and comes back. Then the same write after a restart of its console, and a read under release 2. Ends with 0 if every
+ * answer is the one that is written here. */
 #include "board.h"
 
 static uint32_t words[BOARD_WORDS];
@@ -35,6 +36,30 @@ static int list(void)
     return 0;
 }
 
+/* console 1 begins a write and goes down; after its restart it writes again, and the tag has life 1 */
+static int again(void)
+{
+    if (board_fresh(words, BOARD_WORDS, said, ANSWER_WORDS, 3, 2) != 0 || said[0] != 1)
+        return 14;
+    if (board_begin_write(words, BOARD_WORDS, said, ANSWER_WORDS, 1, 7) != 0 || said[0] != 1)
+        return 15;
+    if (board_console_down(words, BOARD_WORDS, said, ANSWER_WORDS, 1) != 0 || said[0] != 1)
+        return 16;
+    if (board_restart(words, BOARD_WORDS, said, ANSWER_WORDS, 1) != 0 || said[0] != 1)
+        return 17;
+    /* now console 1 is up: refused with 15 */
+    if (board_restart(words, BOARD_WORDS, said, ANSWER_WORDS, 1) != 0 || said[0] != 0 || said[1] != 15)
+        return 18;
+    if (board_begin_write(words, BOARD_WORDS, said, ANSWER_WORDS, 1, 7) != 0 || said[0] != 1)
+        return 19;
+    if (twice(1, 0) != 3 || twice(1, 2) != 4 || twice(1, 0) != 3 || twice(1, 2) != 5)
+        return 20;
+    /* finished with tag (1, 1) of life 1, value 7 */
+    if (said[2] != 1 || said[3] != 1 || said[4] != 7 || said[6] != 1)
+        return 21;
+    return 0;
+}
+
 /* under release 2 a read of a fresh board finishes with its second reply, whose tag is the same as the first's */
 static int quiet(void)
 {
@@ -55,8 +80,8 @@ int main(void)
         return 2;
     if (twice(1, 0) != 3 || twice(1, 2) != 4 || twice(1, 0) != 3 || twice(1, 2) != 5)
         return 3;
-    /* finished with tag (1, 1), value 7 */
-    if (said[2] != 1 || said[3] != 1 || said[4] != 7)
+    /* finished with tag (1, 1) of life 0, value 7 */
+    if (said[2] != 1 || said[3] != 1 || said[4] != 7 || said[6] != 0)
         return 4;
     /* there is no console 2: refused by question 4 */
     if (board_begin_read(words, BOARD_WORDS, said, ANSWER_WORDS, 2) != 0 || said[0] != 0 || said[1] != 4)
@@ -69,5 +94,7 @@ int main(void)
     if (board_node_up(words, BOARD_WORDS, said, ANSWER_WORDS, 1) != 0 || said[0] != 0 || said[1] != 14)
         return 8;
     int wrong = list();
+    if (wrong == 0)
+        wrong = again();
     return wrong != 0 ? wrong : quiet();
 }

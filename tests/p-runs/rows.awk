@@ -9,8 +9,9 @@ function did(a, x, y) {
     if (a == 4) return "node down " x
     if (a == 5) return "console down " x
     if (a == 6) return "node up " x
-    if (a == 7) return "  node " x
-    if (a == 8) return "  cell " x " " y
+    if (a == 7) return "restart " x
+    if (a == 8) return "  node " x
+    if (a == 9) return "  cell " x " " y
     return "  board"
 }
 function saw() {
@@ -25,5 +26,5 @@ BEGIN {
     split("ask reply put ack", frames)
     frames[0] = "nothing"
 }
-$3 == 10 { printf "%sP%s\n", (NR > 1 ? "\n" : ""), $2; next }
+$3 == 11 { printf "%sP%s\n", (NR > 1 ? "\n" : ""), $2; next }
 { printf "  %-16s %s\n", did($3, $4, $5), saw() }

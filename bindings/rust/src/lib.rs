@@ -12,7 +12,7 @@
 //!     board.deliver(1, node)?; // back to the console
 //! }
 //! board.deliver(1, 2)?;
-//! let tag = Tag { ts: 1, console: 1 };
+//! let tag = Tag { ts: 1, console: 1, life: 0 };
 //! assert_eq!(board.deliver(1, 2)?.outcome, Outcome::Finished { tag, value: 7 });
 //!
 //! // Console 0 asks node 0, whose reply carries a higher tag than the (0, 0) that the console began with.
@@ -39,7 +39,7 @@
 //!
 //! let mut board = Board::from_words([0; hatukeno::BOARD_WORDS]);
 //! let answers = board.run(&steps);
-//! let outcome = Outcome::Finished { tag: Tag { ts: 1, console: 1 }, value: 7 };
+//! let outcome = Outcome::Finished { tag: Tag { ts: 1, console: 1, life: 0 }, value: 7 };
 //! assert_eq!(answers.last(), Some(&Ok(Answer { outcome, compared: Compared::None })));
 //! ```
 //!
@@ -52,8 +52,27 @@
 //! for node in [0, 0, 2] {
 //!     board.deliver(0, node)?;
 //! }
-//! let tag = Tag { ts: 0, console: 0 };
+//! let tag = Tag { ts: 0, console: 0, life: 0 };
 //! assert_eq!(board.deliver(0, 2)?.outcome, Outcome::Finished { tag, value: 0 });
+//! # Ok::<(), Refusal>(())
+//! ```
+//!
+//! A console that is down can be restarted. Its life is then one higher, and the tags that it writes carry it:
+//!
+//! ```
+//! # use hatukeno::{Board, Outcome, Refusal, Tag};
+//! let mut board = Board::fresh(1, 1)?;
+//! board.console_down(0)?;
+//! board.restart(0)?;
+//! board.begin_write(0, 7)?;
+//! for _ in 0..3 {
+//!     board.deliver(0, 0)?;
+//! }
+//! let tag = Tag { ts: 1, console: 0, life: 1 };
+//! assert_eq!(board.deliver(0, 0)?.outcome, Outcome::Finished { tag, value: 7 });
+//!
+//! // It is up.
+//! assert_eq!(board.restart(0), Err(Refusal(15)));
 //! # Ok::<(), Refusal>(())
 //! ```
 
@@ -61,10 +80,14 @@ use std::error::Error;
 use std::fmt::{self, Display, Formatter};
 
 /// The words of a board (see [`Board::from_words`]).
-pub const BOARD_WORDS: usize = 3 + 5 * 4 + 8 * 7 + 40 * 4;
+pub const BOARD_WORDS: usize = 4 + 5 * 4 + 8 * 8 + 40 * 4;
 
-/// The words of an answer: the outcome's number, the refusal, the tag's ts and console, the value, the comparison's number.
-const ANSWER_WORDS: usize = 6;
+/// The version of the layout of these words; it stands among them.
+pub const LAYOUT: u32 = 2;
+
+/// The words of an answer: the outcome's number, the refusal, the tag's ts and console, the value, the comparison's
+/// number, the tag's life.
+const ANSWER_WORDS: usize = 7;
 
 /// The words of a step in a list: its number and its two numbers.
 const STEP_WORDS: usize = 3;
@@ -88,6 +111,8 @@ impl Display for Refusal {
             10 => "there is no higher timestamp for the write",
             12 => "there is no such step",
             14 => "the node is up",
+            15 => "the console is up",
+            16 => "the console has no life left",
             _ => "for a reason of no known number",
         };
         write!(f, "refused with {}: {why}", self.0)
@@ -103,11 +128,13 @@ pub enum Release {
     Two,
 }
 
-/// A timestamp and the number of the console that chose it. Tags go by the timestamp, then by the console.
+/// A timestamp, the number of the console that chose it, and the life, from 0 to 1,000, that the console then had. Tags
+/// go by the timestamp, then by the console, then by the life.
 #[derive(Clone, Copy, Debug, PartialEq, Eq)]
 pub struct Tag {
     pub ts: u32,
     pub console: u32,
+    pub life: u32,
 }
 
 /// What an accepted step did.
@@ -154,6 +181,7 @@ pub enum Step {
     NodeDown { node: u32 },
     ConsoleDown { console: u32 },
     NodeUp { node: u32 },
+    Restart { console: u32 },
 }
 
 impl Step {
@@ -166,6 +194,7 @@ impl Step {
             Step::NodeDown { node } => [4, node, 0],
             Step::ConsoleDown { console } => [5, console, 0],
             Step::NodeUp { node } => [6, node, 0],
+            Step::Restart { console } => [7, console, 0],
         }
     }
 }
@@ -188,6 +217,7 @@ extern "C" {
     fn board_node_down(words: *mut u32, words_len: usize, said: *mut u32, said_len: usize, node: u32) -> u32;
     fn board_console_down(words: *mut u32, words_len: usize, said: *mut u32, said_len: usize, console: u32) -> u32;
     fn board_node_up(words: *mut u32, words_len: usize, said: *mut u32, said_len: usize, node: u32) -> u32;
+    fn board_restart(words: *mut u32, words_len: usize, said: *mut u32, said_len: usize, console: u32) -> u32;
     fn board_run(words: *mut u32, words_len: usize, steps: *const u32, steps_len: usize, said: *mut u32, said_len: usize) -> u32;
 }
 
@@ -230,7 +260,8 @@ impl Board {
         self.call(|w, wl, s, sl| unsafe { board_node_down(w, wl, s, sl, node) })
     }
 
-    /// The console goes down for good. Its frames stay in their cells until they are delivered, and are then discarded.
+    /// The console goes down, and its operation is gone. Its frames stay in their cells until it is restarted; one that
+    /// is delivered before is discarded.
     pub fn console_down(&mut self, console: u32) -> Result<Answer, Refusal> {
         self.call(|w, wl, s, sl| unsafe { board_console_down(w, wl, s, sl, console) })
     }
@@ -238,6 +269,12 @@ impl Board {
     /// The node comes back with the tag and value that it held, and frames for it can be delivered again.
     pub fn node_up(&mut self, node: u32) -> Result<Answer, Refusal> {
         self.call(|w, wl, s, sl| unsafe { board_node_up(w, wl, s, sl, node) })
+    }
+
+    /// The console, which was down, is idle again, with its life one higher, and its cells are empty. It is refused
+    /// with 15 if the console is up, and with 16 if its life is 1,000 already.
+    pub fn restart(&mut self, console: u32) -> Result<Answer, Refusal> {
+        self.call(|w, wl, s, sl| unsafe { board_restart(w, wl, s, sl, console) })
     }
 
     /// Puts the steps to the board, one after the other, and gives what each answered. A refused step leaves the board as it
@@ -256,16 +293,19 @@ impl Board {
     /// unless it makes the words of another well-formed board.
     ///
     /// - words 0, 1 and 2: n, m and the release, 1 or 2
-    /// - from 3 on, four for each of 5 nodes: up (1; 0 is down), ts, console, value
-    /// - from 23 on, seven for each of 8 consoles: state (0 idle, 1 asking to read, 2 asking to write, 3 telling to
-    ///   read, 4 telling to write, 5 down), wanted value, answered set (bit k is node k), best ts, best console, best
+    /// - word 3: the version of this layout, [`LAYOUT`]
+    /// - from 4 on, four for each of 5 nodes: up (1; 0 is down), ts, owner, value
+    /// - from 24 on, eight for each of 8 consoles: state (0 idle, 1 asking to read, 2 asking to write, 3 telling to
+    ///   read, 4 telling to write, 5 down), wanted value, answered set (bit k is node k), best ts, best owner, best
     ///   value, the mark 'all alike so far' (0 or 1; it is on from the first answer of an asking while every answer has
-    ///   carried one tag)
-    /// - from 79 on, four for each of 40 cells, at console times 5 plus node: frame (0 nothing, 1 ask, 2 reply, 3 put,
-    ///   4 ack), ts, console, value; the last three are 0 but for a reply and a put
+    ///   carried one tag), the console's own life
+    /// - from 88 on, four for each of 40 cells, at console times 5 plus node: frame (0 nothing, 1 ask, 2 reply, 3 put,
+    ///   4 ack), ts, owner, value; the last three are 0 but for a reply and a put
     ///
-    /// Any other number in the place of a release, an up, a state, a mark or a frame, a set above 255, and anything but
-    /// 0 beside a frame without a tag make them no board's.
+    /// The owner of a tag is its console times 65536 plus its life.
+    ///
+    /// Any other number in the place of a release, the version, an up, a state, a mark or a frame, a set above 255, a
+    /// console's own life above 65535, and anything but 0 beside a frame without a tag make them no board's.
     pub fn from_words(words: [u32; BOARD_WORDS]) -> Board {
         Board { words }
     }
@@ -284,16 +324,16 @@ impl Board {
 
 fn answer(said: &[u32]) -> Result<Answer, Refusal> {
     let outcome = match *said {
-        [0, refusal, 0, 0, 0, 0] => return Err(Refusal(refusal)),
-        [1, 0, 0, 0, 0, 0] => Outcome::Done,
-        [2, 0, 0, 0, 0, 0] => Outcome::Handed,
-        [3, 0, 0, 0, 0, _] => Outcome::Heard,
-        [4, 0, 0, 0, 0, _] => Outcome::Turned,
-        [5, 0, ts, console, value, _] => Outcome::Finished {
-            tag: Tag { ts, console },
+        [0, refusal, 0, 0, 0, 0, 0] => return Err(Refusal(refusal)),
+        [1, 0, 0, 0, 0, 0, 0] => Outcome::Done,
+        [2, 0, 0, 0, 0, 0, 0] => Outcome::Handed,
+        [3, 0, 0, 0, 0, _, 0] => Outcome::Heard,
+        [4, 0, 0, 0, 0, _, 0] => Outcome::Turned,
+        [5, 0, ts, console, value, _, life] => Outcome::Finished {
+            tag: Tag { ts, console, life },
             value,
         },
-        [6, 0, 0, 0, 0, 0] => Outcome::Discarded,
+        [6, 0, 0, 0, 0, 0, 0] => Outcome::Discarded,
         _ => unreachable!("{said:?} is no answer"),
     };
     let compared = match said[5] {
@@ -310,11 +350,19 @@ fn answer(said: &[u32]) -> Result<Answer, Refusal> {
 mod tests {
     use super::*;
 
-    // Where the release and the first node, console and cell stand in the words.
+    // Where the release, the layout's version and the first node, console and cell stand in the words, and the last two
+    // words of a console.
     const RELEASE: usize = 2;
-    const NODES: usize = 3;
-    const CONSOLES: usize = 23;
-    const CELLS: usize = 79;
+    const VERSION: usize = 3;
+    const NODES: usize = 4;
+    const CONSOLES: usize = 24;
+    const CONSOLE: usize = 8;
+    const MARK: usize = 6;
+    const LIFE: usize = 7;
+    const CELLS: usize = 88;
+
+    /// The words of a board in version 1 of the layout, which has no lives.
+    const VERSION_1_WORDS: usize = 239;
 
     const DONE: Answer = Answer {
         outcome: Outcome::Done,
@@ -323,7 +371,11 @@ mod tests {
 
     const FINISHED_EARLY: Answer = Answer {
         outcome: Outcome::Finished {
-            tag: Tag { ts: 0, console: 0 },
+            tag: Tag {
+                ts: 0,
+                console: 0,
+                life: 0,
+            },
             value: 0,
         },
         compared: Compared::Same,
@@ -362,8 +414,57 @@ mod tests {
         assert_eq!(unsafe { board_fresh_release_2(w, BOARD_WORDS - 1, s, ANSWER_WORDS, 3, 2) }, 1);
         assert_eq!(unsafe { board_fresh_release_2(w, BOARD_WORDS, s, ANSWER_WORDS - 1, 3, 2) }, 2);
         assert_eq!(unsafe { board_deliver(w, 0, s, 0, 0, 0) }, 1);
+        assert_eq!(unsafe { board_restart(w, BOARD_WORDS - 1, s, ANSWER_WORDS, 0) }, 1);
+        assert_eq!(unsafe { board_restart(w, BOARD_WORDS, s, ANSWER_WORDS - 1, 0) }, 2);
         assert_eq!(words, [9; BOARD_WORDS]);
         assert_eq!(said, [9; ANSWER_WORDS]);
+    }
+
+    #[test]
+    fn memory_of_version_1_is_refused_by_every_call_and_nothing_is_written() {
+        let mut words = [9; VERSION_1_WORDS];
+        let mut said = [9; ANSWER_WORDS];
+        let list = [0, 3, 2];
+        let (w, wl, s, sl) = (words.as_mut_ptr(), VERSION_1_WORDS, said.as_mut_ptr(), ANSWER_WORDS);
+        let returned = unsafe {
+            [
+                board_fresh(w, wl, s, sl, 3, 2),
+                board_fresh_release_2(w, wl, s, sl, 3, 2),
+                board_begin_read(w, wl, s, sl, 0),
+                board_begin_write(w, wl, s, sl, 0, 7),
+                board_deliver(w, wl, s, sl, 0, 0),
+                board_node_down(w, wl, s, sl, 0),
+                board_console_down(w, wl, s, sl, 0),
+                board_node_up(w, wl, s, sl, 0),
+                board_restart(w, wl, s, sl, 0),
+                board_run(w, wl, list.as_ptr(), list.len(), s, sl),
+            ]
+        };
+        assert_eq!(returned, [1; 10]);
+        assert_eq!(words, [9; VERSION_1_WORDS]);
+        assert_eq!(said, [9; ANSWER_WORDS]);
+    }
+
+    #[test]
+    fn words_of_another_layout_are_refused_and_kept() {
+        let fresh = *Board::fresh(3, 2).unwrap().words();
+        assert_eq!(fresh[VERSION], LAYOUT);
+        for version in [0, 1, 3, 2 + 256, 2 + 65536, u32::MAX] {
+            let mut words = fresh;
+            words[VERSION] = version;
+            let mut board = Board::from_words(words);
+            assert_eq!(board.begin_read(0), Err(Refusal(1)));
+            assert_eq!(board.begin_write(0, 7), Err(Refusal(1)));
+            assert_eq!(board.deliver(0, 0), Err(Refusal(1)));
+            assert_eq!(board.node_down(0), Err(Refusal(1)));
+            assert_eq!(board.console_down(0), Err(Refusal(1)));
+            assert_eq!(board.node_up(0), Err(Refusal(1)));
+            assert_eq!(board.restart(0), Err(Refusal(1)));
+            assert_eq!(board.run(&[Step::Restart { console: 0 }]), [Err(Refusal(1))]);
+            assert_eq!(board.words(), &words);
+            assert_eq!(board.run(&[Step::Fresh { n: 3, m: 2 }]), [Ok(DONE)]);
+            assert_eq!(board.words(), &fresh);
+        }
     }
 
     #[test]
@@ -373,7 +474,7 @@ mod tests {
         let (w, s) = (words.as_mut_ptr(), said.as_mut_ptr());
         assert_eq!(unsafe { board_fresh(w, BOARD_WORDS, s, ANSWER_WORDS, 6, 2) }, 0);
         assert_eq!(words, [9; BOARD_WORDS]);
-        assert_eq!(said, [0, 2, 0, 0, 0, 0]);
+        assert_eq!(said, [0, 2, 0, 0, 0, 0, 0]);
         assert_eq!(Board::fresh(6, 2).unwrap_err().to_string(), "refused with 2: n is not from 1 to 5");
     }
 
@@ -391,7 +492,7 @@ mod tests {
     #[test]
     fn a_mark_that_is_on_at_an_idle_console_is_refused_and_kept() {
         let mut words = *Board::fresh(3, 2).unwrap().words();
-        words[CONSOLES + 6] = 1;
+        words[CONSOLES + MARK] = 1;
         let mut board = Board::from_words(words);
         assert_eq!(board.begin_read(1), Err(Refusal(1)));
         assert_eq!(board.words(), &words);
@@ -405,6 +506,101 @@ mod tests {
         assert_eq!(board.console_down(0), Ok(DONE));
         assert_eq!(board.console_down(0), Err(Refusal(6)));
         assert_eq!(board.begin_read(0), Err(Refusal(6)));
+    }
+
+    #[test]
+    fn a_restarted_console_is_idle_with_a_life_more_and_its_cells_are_empty() {
+        let fresh = Board::fresh(3, 2).unwrap();
+        let mut board = fresh.clone();
+        board.begin_write(1, 7).unwrap();
+        deliver_all(&mut board, 1, &[0]);
+        board.console_down(1).unwrap();
+        assert_eq!(board.restart(1), Ok(DONE));
+        let mut words = fresh.words;
+        words[CONSOLES + CONSOLE + LIFE] = 1;
+        assert_eq!(board.words, words);
+        assert_eq!(board.deliver(1, 0), Err(Refusal(8)));
+    }
+
+    #[test]
+    fn a_console_that_is_up_is_not_restarted() {
+        let mut board = Board::fresh(3, 2).unwrap();
+        assert_eq!(board.restart(0), Err(Refusal(15)));
+        board.begin_read(0).unwrap();
+        let before = board.clone();
+        assert_eq!(board.restart(0), Err(Refusal(15)));
+        assert_eq!(board.restart(2), Err(Refusal(4)));
+        assert_eq!(board.run(&[Step::Restart { console: 0 }]), [Err(Refusal(15))]);
+        assert_eq!(board, before);
+        assert_eq!(Refusal(15).to_string(), "refused with 15: the console is up");
+    }
+
+    #[test]
+    fn the_last_life_is_1000() {
+        let mut words = *Board::fresh(1, 1).unwrap().words();
+        words[CONSOLES + LIFE] = 999;
+        let mut board = Board::from_words(words);
+        let again = [Step::ConsoleDown { console: 0 }, Step::Restart { console: 0 }];
+        assert_eq!(board.run(&again), [Ok(DONE), Ok(DONE)]);
+        board.begin_write(0, 7).unwrap();
+        let tag = Tag {
+            ts: 1,
+            console: 0,
+            life: 1000,
+        };
+        let finished = Answer {
+            outcome: Outcome::Finished { tag, value: 7 },
+            compared: Compared::None,
+        };
+        assert_eq!(deliver_all(&mut board, 0, &[0, 0, 0, 0]), finished);
+        assert_eq!(board.words()[NODES + 2], 1000);
+        // It is up: 15 is asked before 16.
+        assert_eq!(board.restart(0), Err(Refusal(15)));
+        assert_eq!(board.run(&again), [Ok(DONE), Err(Refusal(16))]);
+        assert_eq!(Refusal(16).to_string(), "refused with 16: the console has no life left");
+    }
+
+    #[test]
+    fn two_writes_of_one_console_have_tags_that_differ_in_the_life() {
+        let mut board = Board::fresh(3, 2).unwrap();
+        board.begin_write(0, 7).unwrap();
+        // It turns, and its put lands at node 0 alone.
+        deliver_all(&mut board, 0, &[0, 0, 2, 2, 0]);
+        board.console_down(0).unwrap();
+        board.restart(0).unwrap();
+        board.begin_write(0, 8).unwrap();
+        deliver_all(&mut board, 0, &[1, 1, 2, 2, 0]);
+        // Node 0 held (1, 0) of life 0, and takes (1, 0) of life 1.
+        assert_eq!(board.words()[NODES..NODES + 4], [1, 1, 1, 8]);
+    }
+
+    #[test]
+    fn a_board_with_a_life_out_of_place_is_refused_and_kept() {
+        let wrong = [
+            (NODES + 2, 1),                     // a life of the tag with ts 0
+            (NODES + 2, 65536),                 // a console of the tag with ts 0
+            (CONSOLES + LIFE, 1001),            // above the last
+            (CONSOLES + 2 * CONSOLE + LIFE, 1), // of a console beyond m
+            (CONSOLES + 4, 1),                  // of an idle console's best
+        ];
+        for (place, number) in wrong {
+            let mut words = *Board::fresh(3, 2).unwrap().words();
+            words[place] = number;
+            let mut board = Board::from_words(words);
+            assert_eq!(board.begin_read(0), Err(Refusal(1)));
+            assert_eq!(board.restart(0), Err(Refusal(1)));
+            assert_eq!(board.words(), &words);
+        }
+        let owners = [
+            (65536 + 1000, Ok(DONE)),
+            (65536 + 1001, Err(Refusal(1))),
+            (2 * 65536, Err(Refusal(1))), // there is no console 2
+        ];
+        for (owner, said) in owners {
+            let mut words = *Board::fresh(3, 2).unwrap().words();
+            (words[NODES + 1], words[NODES + 2]) = (1, owner);
+            assert_eq!(Board::from_words(words).begin_read(0), said);
+        }
     }
 
     #[test]
@@ -442,7 +638,11 @@ mod tests {
         assert_eq!(board.node_down(0), Ok(DONE));
         assert_eq!(board.run(&[Step::NodeUp { node: 0 }]), [Ok(DONE)]);
         assert_eq!(board, before);
-        let tag = Tag { ts: 1, console: 0 };
+        let tag = Tag {
+            ts: 1,
+            console: 0,
+            life: 0,
+        };
         let finished = Answer {
             outcome: Outcome::Finished { tag, value: 7 },
             compared: Compared::None,
@@ -460,7 +660,7 @@ mod tests {
         }
         // Nodes 3 and 4 still hold the fresh board's tag (0, 0), which is also the best that console 0 begins with.
         assert_eq!(board.begin_read(0), Ok(DONE));
-        let mark = CONSOLES + 6;
+        let mark = CONSOLES + MARK;
         assert_eq!(board.words()[mark], 0);
         let replies = [
             (3, Outcome::Heard, Compared::Same, 1),
@@ -492,7 +692,7 @@ mod tests {
         let mut said = [9; ANSWER_WORDS];
         let (w, s) = (words.as_mut_ptr(), said.as_mut_ptr());
         assert_eq!(unsafe { board_deliver(w, BOARD_WORDS, s, ANSWER_WORDS, 0, 0) }, 0);
-        assert_eq!(said, [0, 10, 0, 0, 0, 0]);
+        assert_eq!(said, [0, 10, 0, 0, 0, 0, 0]);
         assert_eq!(words, board.words);
     }
 
@@ -540,7 +740,11 @@ mod tests {
         board.begin_write(0, 7).unwrap();
         deliver_all(&mut board, 0, &[0, 0, 0, 0]);
         board.begin_read(0).unwrap();
-        let tag = Tag { ts: 1, console: 0 };
+        let tag = Tag {
+            ts: 1,
+            console: 0,
+            life: 0,
+        };
         let finished = Answer {
             outcome: Outcome::Finished { tag, value: 7 },
             compared: Compared::Higher,
@@ -556,7 +760,7 @@ mod tests {
             let (w, s) = (words.as_mut_ptr(), said.as_mut_ptr());
             assert_eq!(unsafe { board_fresh_release_2(w, BOARD_WORDS, s, ANSWER_WORDS, n, m) }, 0);
             assert_eq!(words, [9; BOARD_WORDS]);
-            assert_eq!(said, [0, refusal, 0, 0, 0, 0]);
+            assert_eq!(said, [0, refusal, 0, 0, 0, 0, 0]);
         }
     }
 
@@ -565,11 +769,15 @@ mod tests {
         let wrong = [
             (RELEASE, 0),
             (RELEASE, 3),
+            (VERSION, 1),
+            (VERSION, 3),
             (NODES, 2),
             (CONSOLES, 6),
             (CONSOLES, 77),
             (CONSOLES + 2, 256),
-            (CONSOLES + 6, 2),
+            (CONSOLES + MARK, 2),
+            (CONSOLES + LIFE, 65536),
+            (CONSOLES + LIFE, u32::MAX),
             (CELLS, 5),
             (CELLS, 9),
             (CELLS + 1, 1),
@@ -604,7 +812,7 @@ mod tests {
         assert_eq!(unsafe { board_fresh(w, words.len(), s, said.len(), 3, 2) }, 0);
         assert_eq!(words[..BOARD_WORDS], Board::fresh(3, 2).unwrap().words()[..]);
         assert_eq!(words[BOARD_WORDS], 9);
-        assert_eq!(said, [1, 0, 0, 0, 0, 0, 9]);
+        assert_eq!(said, [1, 0, 0, 0, 0, 0, 0, 9]);
     }
 
     #[test]
@@ -640,10 +848,11 @@ mod tests {
         let mut said = [9; 2 * ANSWER_WORDS];
         let list = [0, 3, 2, 1, 0, 0];
         let (w, l, s) = (words.as_mut_ptr(), list.as_ptr(), said.as_mut_ptr());
-        assert_eq!(unsafe { board_run(w, BOARD_WORDS - 1, l, 6, s, 12) }, 1);
-        assert_eq!(unsafe { board_run(w, BOARD_WORDS, l, 6, s, 11) }, 2);
-        assert_eq!(unsafe { board_run(w, BOARD_WORDS, l, 5, s, 12) }, 3);
-        assert_eq!(unsafe { board_run(w, BOARD_WORDS, l, 4, s, 12) }, 3);
+        let sl = said.len();
+        assert_eq!(unsafe { board_run(w, BOARD_WORDS - 1, l, 6, s, sl) }, 1);
+        assert_eq!(unsafe { board_run(w, BOARD_WORDS, l, 6, s, sl - 1) }, 2);
+        assert_eq!(unsafe { board_run(w, BOARD_WORDS, l, 5, s, sl) }, 3);
+        assert_eq!(unsafe { board_run(w, BOARD_WORDS, l, 4, s, sl) }, 3);
         assert_eq!(words, [9; BOARD_WORDS]);
         assert_eq!(said, [9; 2 * ANSWER_WORDS]);
     }
@@ -653,10 +862,10 @@ mod tests {
         let mut words = *Board::fresh(3, 2).unwrap().words();
         let before = words;
         let mut said = [9; 2 * ANSWER_WORDS + 1];
-        let list = [7, 0, 0, u32::MAX, 0, 0];
+        let list = [8, 0, 0, u32::MAX, 0, 0];
         let (w, l, s) = (words.as_mut_ptr(), list.as_ptr(), said.as_mut_ptr());
-        assert_eq!(unsafe { board_run(w, BOARD_WORDS, l, 6, s, 13) }, 0);
+        assert_eq!(unsafe { board_run(w, BOARD_WORDS, l, 6, s, said.len()) }, 0);
         assert_eq!(words, before);
-        assert_eq!(said, [0, 12, 0, 0, 0, 0, 0, 12, 0, 0, 0, 0, 9]);
+        assert_eq!(said, [0, 12, 0, 0, 0, 0, 0, 0, 12, 0, 0, 0, 0, 0, 9]);
     }
 }

@@ -1,6 +1,7 @@
 -- P1 to P10 as one theorem, by computation: what each run of the list shows is what it must show. Then the same of the
 -- runs of node up, of those that say how replies compare, of those under release 2, of those with a down console, and
--- of those that hold the definitions to single sentences, of decisions; and of question 1's boards.
+-- of those that hold the definitions to single sentences, of those of restart, of decisions; and of question 1's
+-- boards.
 use mathlib.Core.List.{List, map}
 use mathlib.Core.Path.{◌≡◌, refl}
 use Rattle.board.specs.WellFormed.{well_formed}
@@ -11,6 +12,7 @@ use Rattle.board.specs.CompareRuns.{CompareRun, Told, all_told, says, must_say, 
 use Rattle.board.specs.QuietRuns.{quiet_runs, quiet_replies}
 use Rattle.board.specs.DeadRuns.{dead_runs}
 use Rattle.board.specs.OrderRuns.{Decided, order_runs, order_decisions}
+use Rattle.board.specs.RestartRuns.{restart_runs, restart_replies, restart_decisions}
 use Rattle.board.specs.FormedBoards.{FormedBoard, formed_boards}
 
 -- what runs show, with every definition opened
@@ -49,6 +51,18 @@ order_runs_hold = refl
 pub order_decisions_hold : map (λ (x : Decided). x.decides) order_decisions ≡ map (λ (x : Decided). x.must) order_decisions
 unfolding opened order_decisions
 order_decisions_hold = refl
+
+pub restart_runs_hold : map shows restart_runs ≡ map must_show restart_runs
+unfolding opened restart_runs
+restart_runs_hold = refl
+
+pub restart_replies_hold : map says restart_replies ≡ map must_say restart_replies
+unfolding opened restart_replies
+restart_replies_hold = refl
+
+pub restart_decisions_hold : map (λ (x : Decided). x.decides) restart_decisions ≡ map (λ (x : Decided). x.must) restart_decisions
+unfolding opened restart_decisions
+restart_decisions_hold = refl
 
 pub formed_boards_hold : map (λ (x : FormedBoard). well_formed x.board) formed_boards ≡ map (λ (x : FormedBoard). x.formed) formed_boards
 unfolding opened formed_boards

@@ -1,5 +1,5 @@
--- What a well-formed board gives the steps: its sizes are within the limits, and every tag that a delivery compares has a
--- console number below 8.
+-- What a well-formed board gives the steps: its sizes are within the limits, and every two tags that a delivery
+-- compares may be compared.
 use Prim.Native.Nat.{ℕ, ◌≤◌, ◌<◌}
 use mathlib.Core.Bool.{true, ◌&&◌}
 use mathlib.Core.Path.{◌≡◌}
@@ -8,7 +8,8 @@ use borrow.Author.Tests.{leb-true, ltb-true, lt-ltb}
 use lib.Dec.{leb, ltb}
 use Rattle.parts.specs.declared.Tag.{Tag}
 use Rattle.parts.specs.declared.Setup.{Setup}
-use Rattle.parts.specs.Limits.{max_ts}
+use Rattle.parts.specs.Limits.{max_ts, max_life}
+use Rattle.parts.proofs.TagsLaws.{Small}
 use Rattle.parts.proofs.FiniteLaws.{and_left, and_right, every_at}
 use Rattle.well_formed.specs.Clauses.{nodes_allowed, consoles_allowed, setup_ok, tag_ok, node_ok, nodes_ok, mark_ok, console_ok, consoles_ok, frame_ok, cell_ok, row_ok, cells_ok}
 use Rattle.decisions.specs.Comparable.{Comparable}
@@ -16,9 +17,15 @@ use Rattle.board.specs.declared.Board.{Board}
 use Rattle.board.specs.Boards.{node_at, console_at, frame_at}
 use Rattle.board.specs.WellFormed.{well_formed}
 
-tag_below : (σ : Setup) (t : Tag) (v : ℕ) → tag_ok σ t v ≡ true → t.console < σ.m
+pub tag_small : (σ : Setup) (t : Tag) (v : ℕ) → σ.m ≤ 8 → tag_ok σ t v ≡ true → Small t
 unfolding tag_ok
-tag_below σ t v h = ltb-true t.console σ.m (and_right (leb t.ts max_ts) _ (and_left (leb t.ts max_ts && ltb t.console σ.m) _ h))
+tag_small σ t v most h = record {
+  console_8 = omega (arith, most, ltb-true t.console σ.m (and_right (leb t.ts max_ts) _ (and_left (leb t.ts max_ts && ltb t.console σ.m) _ before)));
+  life_fits = omega (arith, leb-true t.life max_life (and_right (leb t.ts max_ts && ltb t.console σ.m) _ before));
+}
+  where
+    before : (leb t.ts max_ts && ltb t.console σ.m && leb t.life max_life) ≡ true
+    before = and_left (leb t.ts max_ts && ltb t.console σ.m && leb t.life max_life) _ h
 
 module _ (b : Board) (h : well_formed b ≡ true) where
   three_parts : (setup_ok b.setup && nodes_ok b.setup b.nodes && consoles_ok b.setup b.consoles) ≡ true
@@ -72,19 +79,20 @@ module _ (b : Board) (h : well_formed b ≡ true) where
     unfolding console_ok
     best_tag =
         let passes = rw (lt-ltb c b.setup.m cm) at (console_passes c (omega (arith, m_at_most))) in
-        and_left (tag_ok b.setup (console_at b c).best (console_at b c).value) _ (and_right (mark_ok (console_at b c) (console_at b c).state) _ passes)
+        and_left (tag_ok b.setup (console_at b c).best (console_at b c).value) _ (and_right (mark_ok (console_at b c) (console_at b c).state && leb (console_at b c).life max_life) _ passes)
 
     frame_passes : frame_ok b.setup (frame_at b c k) ≡ true
     unfolding cell_ok
     frame_passes = rw (lt-ltb c b.setup.m cm, lt-ltb k b.setup.n kn) at (cell_passes c k (omega (arith, m_at_most)) (omega (arith, n_at_most)))
 
-    -- the tags that a delivery compares have console numbers below 8
-    pub comparable : Comparable k (console_at b c) (node_at b k) (frame_at b c k)
+    -- the tags that a delivery compares may be compared
+    pub comparable : Comparable c k (console_at b c) (node_at b k) (frame_at b c k)
     unfolding frame_ok
     comparable = record {
+      c_8 = omega (arith, m_at_most);
       k_8 = omega (arith, n_at_most);
-      best_8 = omega (arith, tag_below b.setup (console_at b c).best (console_at b c).value best_tag, m_at_most);
-      node_8 = omega (arith, tag_below b.setup (node_at b k).tag (node_at b k).value node_tag, m_at_most);
-      reply_8 = λ t v e. omega (arith, tag_below b.setup t v (rw e at frame_passes), m_at_most);
-      put_8 = λ t v e. omega (arith, tag_below b.setup t v (rw e at frame_passes), m_at_most);
+      best_8 = (tag_small b.setup (console_at b c).best (console_at b c).value m_at_most best_tag).console_8;
+      node_8 = (tag_small b.setup (node_at b k).tag (node_at b k).value m_at_most node_tag).console_8;
+      reply_8 = λ t v e. (tag_small b.setup t v m_at_most (rw e at frame_passes)).console_8;
+      put_8 = λ t v e. (tag_small b.setup t v m_at_most (rw e at frame_passes)).console_8;
     }

@@ -16,7 +16,7 @@ use Rattle.board.specs.declared.Answer.{Answer}
 use Rattle.board.specs.declared.Board.{Board}
 use Rattle.board.specs.Boards.{console_at, with_console, with_frame, fresh_board}
 use Rattle.board.specs.Steps.{setup_of}
-use Rattle.board.specs.Runs.{Step, BeginRead, BeginWrite, Deliver, NodeDown, ConsoleDown, NodeUp, step}
+use Rattle.board.specs.Runs.{Step, BeginRead, BeginWrite, Deliver, NodeDown, ConsoleDown, NodeUp, Restart, step}
 use Rattle.board.specs.PRuns.{p9_board}
 
 -- a step, the numbers of its outcome and its refusal, how the reply compared, and the mark of its console after it
@@ -41,6 +41,7 @@ console_of (Deliver c k) = c
 console_of (NodeDown k) = 0
 console_of (ConsoleDown c) = c
 console_of (NodeUp k) = 0
+console_of (Restart c) = c
 
 abbrev told : Step → Answer → Told
 told s a =
@@ -178,7 +179,7 @@ highest = turned 0 0 (Some Greater) ∷ []
 
 -- a console in state s with the answered set a
 abbrev console : State → ℕ → Bool → Console
-console s a on = record { state = s; wanted = 0; answered = a; best = zero_tag; value = 0; alike = on }
+console s a on = record { state = s; wanted = 0; answered = a; best = zero_tag; value = 0; alike = on; life = 0 }
 
 -- the reply of a node that has answered, which no run leads to: it is thrown away, and the mark stays on
 again : CompareRun

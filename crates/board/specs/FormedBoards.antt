@@ -1,5 +1,6 @@
--- Question 1 by examples: for each clause of 'A board is well formed if' (document 01) and of the mark's (document 02,
--- Paper 3) a board that breaks it alone beside one that keeps it. proofs/PRunsHold.antt proves that well_formed says so.
+-- Question 1 by examples: for each clause of 'A board is well formed if' (document 01), of the mark's (document 02,
+-- Paper 3) and of lives (Paper 7) a board that breaks it alone beside one that keeps it. proofs/PRunsHold.antt proves
+-- that well_formed says so.
 use Rattle.std.specs.Prelude.{ℕ, Bool, true, false, not, List, [], ◌∷◌, ◌++◌, eqb}
 use Rattle.parts.specs.declared.Tag.{Tag}
 use Rattle.parts.specs.declared.Frame.{Frame}
@@ -16,6 +17,7 @@ use Rattle.board.specs.declared.Board.{Board}
 use Rattle.board.specs.Boards.{with_node, with_console, with_frame, fresh_board}
 use Rattle.board.specs.Steps.{setup_of}
 use Rattle.board.specs.PRuns.{tag}
+use Rattle.board.specs.RestartRuns.{life_tag, in_life}
 
 -- a board, and whether it is well formed
 pub record FormedBoard : Type 0 where
@@ -49,7 +51,7 @@ holding u t v = record { up = u; tag = t; value = v }
 
 -- a console in state s that wants w, with the answered set a, best t and its value v; on says whether the mark is
 abbrev marked : Bool → State → ℕ → ℕ → Tag → ℕ → Console
-marked on s w a t v = record { state = s; wanted = w; answered = a; best = t; value = v; alike = on }
+marked on s w a t v = record { state = s; wanted = w; answered = a; best = t; value = v; alike = on; life = 0 }
 
 -- the mark off
 abbrev plain : State → ℕ → ℕ → Tag → ℕ → Console
@@ -205,6 +207,41 @@ marks =
     ∷ breaks (console 5 2 7 (marked true Idle 0 0 zero_tag 0))
     ∷ []
 
+-- ---- lives
+
+-- 'no tag .. has a life above 1,000'; it may be above its console's, which is 0 here
+tag_lives : List FormedBoard
+tag_lives = everywhere keeps 3 2 1 2 (life_tag 1 1 1000) 5 ++ everywhere breaks 3 2 1 2 (life_tag 1 1 1001) 5
+
+-- 'A tag with ts 0 has life 0'
+zero_lives : List FormedBoard
+zero_lives =
+    everywhere breaks 3 2 1 2 (life_tag 0 0 1) 0
+    ++ (breaks (console 3 2 1 (plain Idle 0 0 (life_tag 0 0 1) 0)) ∷ breaks (console 3 2 1 (plain Down 0 0 (life_tag 0 0 1) 0)) ∷ [])
+
+-- 'no .. console has a life above 1,000', whatever its state
+abbrev living : (Board → FormedBoard) → ℕ → List FormedBoard
+living is l =
+    is (console 3 2 1 (in_life l (plain Idle 0 0 zero_tag 0)))
+    ∷ is (console 3 2 1 (in_life l (plain Down 0 0 zero_tag 0)))
+    ∷ is (console 3 2 1 (in_life l (asking Write 7 4 (tag 1 1) 5)))
+    ∷ is (console 3 2 1 (in_life l (telling Write 7 0 (tag 1 1) 5)))
+    ∷ []
+
+console_lives : List FormedBoard
+console_lives = living keeps 1 ++ living keeps 1000 ++ living breaks 1001
+
+-- 'consoles beyond m have life 0', and tag (0, 0) there has life 0 too
+lives_beyond : List FormedBoard
+lives_beyond =
+    breaks (console 3 2 2 (in_life 1 (plain Idle 0 0 zero_tag 0)))
+    ∷ keeps (console 3 3 2 (in_life 1 (plain Idle 0 0 zero_tag 0)))
+    ∷ breaks (console 3 2 7 (in_life 1 (plain Idle 0 0 zero_tag 0)))
+    ∷ keeps (console 3 8 7 (in_life 1 (plain Idle 0 0 zero_tag 0)))
+    ∷ breaks (console 3 2 7 (plain Idle 0 0 (life_tag 0 0 1) 0))
+    ∷ breaks (node 3 2 3 (holding true (life_tag 0 0 1) 0))
+    ∷ []
+
 -- ---- 'nodes, consoles and cells beyond n and m are up with tag (0, 0) and value 0, idle, and empty'
 
 -- beside each the same part below n or m
@@ -244,7 +281,8 @@ cells_beyond =
     ∷ []
 
 unfoldable pub formed_boards : List FormedBoard
-unfolding ranges timestamps numbers zeros names members unanswered wanted rests marks nodes_beyond consoles_beyond cells_beyond
+unfolding ranges timestamps numbers zeros names members unanswered wanted rests marks tag_lives zero_lives console_lives
+    lives_beyond nodes_beyond consoles_beyond cells_beyond
 formed_boards =
     ranges
     ++ timestamps
@@ -256,6 +294,10 @@ formed_boards =
     ++ wanted
     ++ rests
     ++ marks
+    ++ tag_lives
+    ++ zero_lives
+    ++ console_lives
+    ++ lives_beyond
     ++ nodes_beyond
     ++ consoles_beyond
     ++ cells_beyond

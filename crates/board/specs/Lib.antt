@@ -12,4 +12,5 @@ pub mod CompareRuns
 pub mod QuietRuns
 pub mod DeadRuns
 pub mod OrderRuns
+pub mod RestartRuns
 pub mod FormedBoards

@@ -29,34 +29,34 @@ use Rattle.board.specs.DeadRuns.{console_down}
 
 -- ---- a board of three nodes and two consoles, written down field by field, with none of the definitions under test
 
-abbrev holding : ℕ → ℕ → ℕ → Node
+abbrev pub holding : ℕ → ℕ → ℕ → Node
 holding t c v = record { up = true; tag = tag t c; value = v }
 
 abbrev down_node : Tag → ℕ → Node
 down_node t v = record { up = false; tag = t; value = v }
 
 -- a console in state s that wants w, with the answered set a, best t and its value v, and whether the mark is on
-abbrev console : State → ℕ → ℕ → Tag → ℕ → Bool → Console
-console s w a t v on = record { state = s; wanted = w; answered = a; best = t; value = v; alike = on }
+abbrev pub console : State → ℕ → ℕ → Tag → ℕ → Bool → Console
+console s w a t v on = record { state = s; wanted = w; answered = a; best = t; value = v; alike = on; life = 0 }
 
-abbrev down_console : Console
+abbrev pub down_console : Console
 down_console = console Down 0 0 zero_tag 0 false
 
 -- a console's cells
-abbrev row : Frame → Frame → Frame → List Cell
+abbrev pub row : Frame → Frame → Frame → List Cell
 row f g h = cell_of f ∷ cell_of g ∷ cell_of h ∷ replicate 2 (cell_of Nothing)
 
-abbrev all_of : Frame → List Cell
+abbrev pub all_of : Frame → List Cell
 all_of f = row f f f
 
-abbrev nodes : Node → Node → Node → List Node
+abbrev pub nodes : Node → Node → Node → List Node
 nodes x y z = x ∷ y ∷ z ∷ replicate 2 fresh_node
 
-abbrev fresh_nodes : List Node
+abbrev pub fresh_nodes : List Node
 fresh_nodes = nodes fresh_node fresh_node fresh_node
 
 -- console 0 and its cells, and console 1 and its cells
-abbrev board : List Node → Console → List Cell → Console → List Cell → Board
+abbrev pub board : List Node → Console → List Cell → Console → List Cell → Board
 board ys x xs y zs =
     record {
       setup = setup_of 3 2 One;
@@ -66,7 +66,7 @@ board ys x xs y zs =
     }
 
 -- console 0 idle, and all of its cells empty
-abbrev board_of1 : List Node → Console → List Cell → Board
+abbrev pub board_of1 : List Node → Console → List Cell → Board
 board_of1 ys y zs = board ys idle_console (all_of Nothing) y zs
 
 -- console 1 idle, and all of its cells empty
@@ -74,7 +74,7 @@ abbrev board_of0 : List Node → Console → List Cell → Board
 board_of0 ys x xs = board ys x xs idle_console (all_of Nothing)
 
 -- the nodes after P2
-abbrev p2_nodes : List Node
+abbrev pub p2_nodes : List Node
 p2_nodes = nodes (holding 1 1 7) fresh_node (holding 1 1 7)
 
 -- ---- 'Tag a is greater than tag b if its ts is greater, or the ts are equal and its console number is greater'
@@ -207,7 +207,7 @@ delivers =
     ∷ [])
 
 -- 1 before all others: node 2's timestamp is too high, and each step has a further question that would be answered no
-abbrev damaged_board : Board
+abbrev pub damaged_board : Board
 damaged_board =
     board (nodes fresh_node (down_node zero_tag 0) (holding 4000000001 0 5)) down_console (all_of Nothing) (console (Asking Write) 7 0 zero_tag 0 false) (all_of Ask)
 
@@ -344,7 +344,7 @@ resting =
     ∷ Whole gives Is (resting_board (all_of Nothing))
     ∷ []
 
--- 'down for good, its operation gone, its cells as they are': while it asks, and while it tells
+-- 'its operation gone, its cells as they are': while it asks, and while it tells
 down_asking : List Line
 down_asking =
     on_three
@@ -377,7 +377,7 @@ pub record Decided : Type 0 where
   pub must : Decision
 
 infix 70 ◌must_be◌
-abbrev ◌must_be◌ : Decision → Decision → Decided
+abbrev pub ◌must_be◌ : Decision → Decision → Decided
 d must_be e = record { decides = d; must = e }
 
 abbrev three_two : Setup

@@ -87,8 +87,9 @@ must_show r = map (λ (l : Line). l.must) r.lines
 
 -- ---- the words of the runs
 
+-- a tag of a console in its first life
 abbrev pub tag : ℕ → ℕ → Tag
-tag t c = record { ts = t; console = c }
+tag t c = record { ts = t; console = c; life = 0 }
 
 abbrev pub refused : ℕ → Seen
 refused r = Said 0 r zero_tag 0
@@ -256,7 +257,7 @@ p9_board t =
     record {
       setup = setup_of 1 1 One;
       nodes = record { up = true; tag = tag t 0; value = 5 } ∷ replicate 4 fresh_node;
-      consoles = record { state = Asking Write; wanted = 7; answered = 0; best = zero_tag; value = 0; alike = false } ∷ replicate 7 idle_console;
+      consoles = record { state = Asking Write; wanted = 7; answered = 0; best = zero_tag; value = 0; alike = false; life = 0 } ∷ replicate 7 idle_console;
       cells = cell_of (Reply (tag t 0) 5) ∷ replicate 39 (cell_of Nothing);
     }
 

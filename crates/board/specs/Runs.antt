@@ -1,5 +1,5 @@
--- The six kinds of step that a run is made of, with any numbers: document 01's five ('What demand 3 speaks of'), and node up
--- (document 02, Paper 2).
+-- The seven kinds of step that a run is made of, with any numbers: document 01's five ('What demand 3 speaks of'), node
+-- up (document 02, Paper 2) and restart (Paper 7).
 use Rattle.std.specs.Prelude.{ℕ}
 use Rattle.board.specs.declared.Board.{Board}
 use Rattle.board.specs.declared.Answer.{Answer}
@@ -14,6 +14,7 @@ pub data Step : Type 0 where
   NodeDown : ℕ → Step
   ConsoleDown : ℕ → Step
   NodeUp : ℕ → Step
+  Restart : ℕ → Step
 
 -- what the step answers on a board
 unfoldable pub step : Board → Step → Answer
@@ -23,3 +24,4 @@ step b (Deliver c k) = deliveries.deliver b c k
 step b (NodeDown k) = steps.node_down b k
 step b (ConsoleDown c) = steps.console_down b c
 step b (NodeUp k) = steps.node_up b k
+step b (Restart c) = steps.restart b c

@@ -1,6 +1,6 @@
--- The steps but for deliver (document 01, 'The steps'): fresh, begin read, begin write, node down, console down; and
--- node up (document 02, Paper 2). Each but fresh is what decisions/Steps says of its console or node, its questions
--- with it, done on the board.
+-- The steps but for deliver (document 01, 'The steps'): fresh, begin read, begin write, node down, console down; node
+-- up (document 02, Paper 2); and restart (Paper 7). Each but fresh is what decisions/Steps says of its console or node,
+-- its questions with it, done on the board.
 use Rattle.std.specs.Prelude.{ℕ, [], ◌∷◌}
 use Rattle.parts.specs.declared.Kind.{Kind}
 use Rattle.parts.specs.declared.Kind.TheVariants.{Read, Write}
@@ -8,7 +8,7 @@ use Rattle.parts.specs.declared.Release.{Release}
 use Rattle.parts.specs.declared.Release.TheVariants.{One}
 use Rattle.parts.specs.declared.Setup.{Setup}
 use Rattle.decisions.specs.Questions.{guarded, has_allowed_nodes, has_allowed_consoles}
-use Rattle.decisions.specs.Steps.{begins, ends, falls, rises}
+use Rattle.decisions.specs.Steps.{begins, ends, restarts, falls, rises}
 use Rattle.board.specs.declared.Board.{Board}
 use Rattle.parts.specs.declared.Outcome.TheVariants.{Done}
 use Rattle.board.specs.declared.Answer.{Answer}
@@ -57,3 +57,7 @@ node_up b k = applied b 0 k (rises (well_formed b) b.setup k (node_at b k))
 -- Console down (console)
 unfoldable pub console_down : Board → ℕ → Answer
 console_down b c = applied b c 0 (ends (well_formed b) b.setup c (console_at b c))
+
+-- Restart (console)
+unfoldable pub restart : Board → ℕ → Answer
+restart b c = applied b c 0 (restarts (well_formed b) b.setup c (console_at b c))

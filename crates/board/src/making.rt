@@ -16,6 +16,8 @@ impl Board {
 
     pub const MAX_TS: u32 = parts::MAX_TS;
 
+    pub const MAX_LIFE: u16 = parts::MAX_LIFE;
+
     // A board of n nodes and m consoles on which nothing has happened, under release 1.
     pub fn fresh(n: u32, m: u32) -> Answer
         ensures { result ≡ fresh (setup_of n m One) }

@@ -1,13 +1,14 @@
-// The steps but for fresh and deliver: begin read, begin write, node down, node up, console down. Each does on the board what is decided of its
-// console or its node; the board goes in and the next one comes back in the answer. Beside each is the same step for a caller who knows
-// whether the board is well formed, so that question 1 need not be asked. That stays a parameter and is no fact of a type: a public step
-// asks nothing of its caller. verbs has the type (Checked).
+// The steps but for fresh and deliver: begin read, begin write, node down, node up, console down, restart. Each does on
+// the board what is decided of its console or its node; the board goes in and the next one comes back in the answer.
+// Beside each is the same step for a caller who knows whether the board is well formed, so that question 1 need not be
+// asked. That stays a parameter and is no fact of a type: a public step asks nothing of its caller. verbs has the type
+// (Checked).
 ghost use Rattle.std.specs.Prelude.{◌≡◌};
 ghost use Rattle.board.specs.WellFormed.{well_formed};
-ghost use Rattle.board.specs.Steps.{begin, begin_read, begin_write, node_down, node_up, console_down};
+ghost use Rattle.board.specs.Steps.{begin, begin_read, begin_write, node_down, node_up, console_down, restart};
 
 use crate::{Answer, Board};
-use decisions::steps::{begin, end, fall, rise};
+use decisions::steps::{begin, end, fall, restart, rise};
 use parts::{ConsoleId, Kind, NodeId};
 
 impl Board {
@@ -46,7 +47,7 @@ impl Board {
         self.apply(c, NodeId(0), decision)
     }
 
-    // Console c goes down for good: its operation is gone, its frames stay in their cells.
+    // Console c goes down: its operation is gone, its frames stay in their cells.
     pub fn console_down(self, c: ConsoleId) -> Answer
         ensures { result ≡ console_down self c.0 }
     {
@@ -58,6 +59,21 @@ impl Board {
         ensures { formed ≡ well_formed self → result ≡ console_down self c.0 }
     {
         let decision = end(formed, self.setup, c, self.console_at(c));
+        self.apply(c, NodeId(0), decision)
+    }
+
+    // Console c, which is down, comes back: it is idle, in its next life, and its cells are empty.
+    pub fn restart(self, c: ConsoleId) -> Answer
+        ensures { result ≡ restart self c.0 }
+    {
+        self.restart_known(self.is_well_formed(), c)
+    }
+
+    #[tactic(auto, unfolding(crate::specs::Steps::restart))]
+    pub fn restart_known(self, formed: bool, c: ConsoleId) -> Answer
+        ensures { formed ≡ well_formed self → result ≡ restart self c.0 }
+    {
+        let decision = restart(formed, self.setup, c, self.console_at(c));
         self.apply(c, NodeId(0), decision)
     }
 

@@ -14,7 +14,7 @@ field_bytes = 11
 
 -- how many fields an output line has after its number
 abbrev pub output_size : ℕ
-output_size = 5
+output_size = 6
 
 -- the most bytes of a written line: its number, its fields and its LF
 abbrev pub line_bytes : ℕ
@@ -51,7 +51,8 @@ fields_text (n ∷ ns) = field_text n ++ fields_text ns
 abbrev pub ended : List ℕ → List ℕ
 ended ns = joined ns ++ lf_byte ∷ []
 
--- 'Each output line has line number, refusal or 0, outcome, ts, console, value'
+-- 'Each output line has line number, refusal or 0, outcome, ts, console, value', and the tag's life 'as a seventh
+-- field' (document 02, Paper 7)
 abbrev pub output_fields : Output → List ℕ
 output_fields o = o.number ∷ o.fields
 

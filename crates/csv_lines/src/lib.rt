@@ -15,10 +15,11 @@ pub enum BadLine {
     NotThree,
 }
 
-// The fields of an output line after its number: refusal or 0, outcome, ts, console, value.
-pub const OUTPUT_SIZE: usize = 5;
+// The fields of an output line after its number: refusal or 0, outcome, ts, console, value, life.
+pub const OUTPUT_SIZE: usize = 6;
 
-// Paper 1: 'Each output line has line number, refusal or 0, outcome, ts, console, value'.
+// Paper 1: 'Each output line has line number, refusal or 0, outcome, ts, console, value'; Paper 7: 'and the program's
+// output gains the tag's life as a seventh field'.
 #[derive(Clone, Copy)]
 pub struct Output {
     pub number: u64,

@@ -1,5 +1,5 @@
--- Where a delivery may compare tags: 'only where both console numbers are below 8'; and a byte has room for its node. What delivering
--- promises rests on it, and a well-formed board gives it.
+-- Where a delivery may compare tags: 'only where both console numbers are below 8'; a byte has room for its node, and a
+-- tag for its console. What delivering promises rests on it, and a well-formed board gives it.
 use Rattle.std.specs.Prelude.{ℕ, ◌<◌, ◌≡◌}
 use Rattle.parts.specs.Limits.{max_consoles}
 use Rattle.parts.specs.declared.Console.{Console}
@@ -8,8 +8,9 @@ use Rattle.parts.specs.declared.Frame.TheVariants.{Reply, Put}
 use Rattle.parts.specs.declared.Node.{Node}
 use Rattle.parts.specs.declared.Tag.{Tag}
 
--- of node k, which is y, console x and the frame f between them
-pub record Comparable (k : ℕ) (x : Console) (y : Node) (f : Frame) : Type 0 where
+-- of console c, which is x, node k, which is y, and the frame f between them
+pub record Comparable (c k : ℕ) (x : Console) (y : Node) (f : Frame) : Type 0 where
+  pub c_8 : c < max_consoles
   pub k_8 : k < 8
   pub best_8 : x.best.console < max_consoles
   pub node_8 : y.tag.console < max_consoles

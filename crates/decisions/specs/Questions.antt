@@ -1,15 +1,16 @@
--- The questions of document 01, 'Questions put before each step', and node up's (document 02, Paper 2), each with its refusal,
--- whose number Refusals gives. The steps say which they ask. Refusals has those of lines and verbs too.
+-- The questions of document 01, 'Questions put before each step', node up's (document 02, Paper 2) and restart's (Paper
+-- 7), each with its refusal, whose number Refusals gives. The steps say which they ask. Refusals has those of lines and
+-- verbs too.
 use Rattle.std.specs.Prelude.{ℕ, Bool, cond, not, List, [], ◌∷◌, ltb}
 use Rattle.well_formed.specs.Clauses.{nodes_allowed, consoles_allowed}
 use Rattle.decisions.specs.declared.refusals.Refusal.{Refusal}
-use Rattle.decisions.specs.declared.refusals.Refusal.TheVariants.{NotWellFormed, BadNodeCount, BadConsoleCount, NoSuchConsole, NoSuchNode, ConsoleIsDown, ConsoleBusy, NoFrame, NodeIsDown, TsUsedUp, NodeIsUp}
+use Rattle.decisions.specs.declared.refusals.Refusal.TheVariants.{NotWellFormed, BadNodeCount, BadConsoleCount, NoSuchConsole, NoSuchNode, ConsoleIsDown, ConsoleBusy, NoFrame, NodeIsDown, TsUsedUp, NodeIsUp, ConsoleIsUp, LivesUsedUp}
 use Rattle.parts.specs.declared.Setup.{Setup}
 use Rattle.parts.specs.declared.Node.{Node}
 use Rattle.parts.specs.declared.Frame.{Frame}
 use Rattle.parts.specs.declared.Console.{Console}
 use Rattle.parts.specs.Finite.{◌implies◌}
-use Rattle.parts.specs.Limits.{max_ts}
+use Rattle.parts.specs.Limits.{max_ts, max_life}
 use Rattle.parts.specs.Parts.{is_nothing, is_idle, is_up, writes}
 
 -- whether a question is answered yes, and its refusal
@@ -38,7 +39,7 @@ has_allowed_nodes σ = nodes_allowed σ.n or_refuse BadNodeCount
 abbrev pub has_allowed_consoles : Setup → Question
 has_allowed_consoles σ = consoles_allowed σ.m or_refuse BadConsoleCount
 
--- 4. 'Is the console number below m? (begins, deliver, console down)'
+-- 4. 'Is the console number below m? (begins, deliver, console down)', and restart
 abbrev pub has_console : Setup → ℕ → Question
 has_console σ c = ltb c σ.m or_refuse NoSuchConsole
 
@@ -70,3 +71,11 @@ has_next_ts x = (writes x.state implies ltb x.best.ts max_ts) or_refuse TsUsedUp
 -- 14 (document 02, Paper 2). Node up 'refuses, after question 5, a node that is already up'
 abbrev pub node_is_down : Node → Question
 node_is_down y = not y.up or_refuse NodeIsUp
+
+-- 15 (document 02, Paper 7). Restart 'refuses, after question 4, a console that is up': idle or waiting
+abbrev pub console_is_down : Console → Question
+console_is_down x = not (is_up x.state) or_refuse ConsoleIsUp
+
+-- 16 (Paper 7). 'then a life already at 1,000'
+abbrev pub has_next_life : Console → Question
+has_next_life x = ltb x.life max_life or_refuse LivesUsedUp

@@ -29,7 +29,7 @@ pub fn delivered(
     y: Node,
     f: Frame,
 ) -> Decision
-    ensures { (formed ≡ true → c.0 < setup.m → k.0 < setup.n → Comparable k.0 x y f) → result ≡ delivered formed setup c.0 k.0 x y f }
+    ensures { (formed ≡ true → c.0 < setup.m → k.0 < setup.n → Comparable c.0 k.0 x y f) → result ≡ delivered formed setup c.0 k.0 x y f }
 {
     Refusal::NotWellFormed.unless(formed)?;
     Refusal::NoSuchConsole.unless(c.0 < setup.m)?;
@@ -51,7 +51,7 @@ fn is_withdrawn(x: Console, f: Frame) -> bool
 // Question 8 has refused an empty cell, and a frame that is withdrawn does not come here.
 #[tactic(auto, unfolding(crate::specs::Deliver::on_frame))]
 fn deliver_frame(setup: Setup, c: ConsoleId, k: NodeId, x: Console, y: Node, f: Frame) -> Decision
-    ensures { Comparable k.0 x y f → result ≡ on_frame setup c.0 k.0 x y f }
+    ensures { Comparable c.0 k.0 x y f → result ≡ on_frame setup c.0 k.0 x y f }
 {
     match f {
         Frame::Nothing => discard(),
@@ -90,7 +90,7 @@ fn deliver_put(y: Node, t: Tag, v: u32) -> Decision
 
 #[tactic(auto, unfolding(crate::specs::Deliver::on_reply))]
 fn deliver_reply(setup: Setup, c: ConsoleId, k: NodeId, x: Console, t: Tag, v: u32) -> Decision
-    ensures { k.0 < 8 → x.best.console < max_consoles → t.console < max_consoles → result ≡ on_reply setup c.0 k.0 x t v }
+    ensures { c.0 < max_consoles → k.0 < 8 → x.best.console < max_consoles → t.console < max_consoles → result ≡ on_reply setup c.0 k.0 x t v }
 {
     if !awaits_reply(x, k) {
         return discard();
@@ -101,7 +101,7 @@ fn deliver_reply(setup: Setup, c: ConsoleId, k: NodeId, x: Console, t: Tag, v: u
 // The reply is taken in.
 #[tactic(auto, unfolding(crate::specs::Deliver::replied, crate::specs::Questions::guarded))]
 fn take_reply(setup: Setup, c: ConsoleId, reply: TakenIn) -> Decision
-    ensures { result ≡ replied setup c.0 reply }
+    ensures { c.0 < max_consoles → result ≡ replied setup c.0 reply }
 {
     let x = reply.console;
     let how = Some(reply.compared);
@@ -151,10 +151,10 @@ fn take_ack(setup: Setup, x: Console) -> Decision
     finish(None, x)
 }
 
-// The console, with the reply taken in, turns, where a write's timestamp can grow.
+// The console, with the reply taken in, turns, where a tag has room for its number and a write's timestamp can grow.
 #[tactic(auto, unfolding(crate::specs::Deliver::turned))]
 fn turn(c: ConsoleId, how: Option<Ordering>, x: Console) -> Decision
-    ensures { (writes x.state ≡ true → x.best.ts < max_ts) → result ≡ turned c.0 how x }
+    ensures { c.0 < max_consoles → (writes x.state ≡ true → x.best.ts < max_ts) → result ≡ turned c.0 how x }
 {
     let z = tell(c, x);
     accept(

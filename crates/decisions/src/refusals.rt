@@ -21,6 +21,9 @@ pub enum Refusal {
     LineTooLong = 13,
     // Node up's own (document 02, Paper 2).
     NodeIsUp = 14,
+    // Restart's own (document 02, Paper 7).
+    ConsoleIsUp = 15,
+    LivesUsedUp = 16,
 }
 
 impl From<Refusal> for u32 {

@@ -2,13 +2,13 @@
 // answer is handed in: formed says whether the board is well formed. It and the setup, a part and its number stay apart:
 // the questions ask each of them alone, and a struct would be taken to pieces at once.
 ghost use Rattle.std.specs.Prelude.{◌≡◌, None, cond};
-ghost use Rattle.decisions.specs.Steps.{accept, begins, ends, falls, rises};
+ghost use Rattle.decisions.specs.Steps.{accept, begins, ends, restarts, falls, rises};
 
-use crate::consoles::{ask, rest};
+use crate::consoles::{ask, rest, restarted};
 use crate::nodes::set_up;
 use crate::refusals::Refusal;
 use crate::{Change, Decision, Part, Sent};
-use parts::{Console, ConsoleId, Frame, Kind, Node, NodeId, Outcome, Setup, State};
+use parts::{Console, ConsoleId, Frame, Kind, MAX_LIFE, Node, NodeId, Outcome, Setup, State};
 use std::cmp::Ordering;
 
 // Console c, which is x, begins an operation of either kind; v is the wanted value.
@@ -32,6 +32,18 @@ pub fn end(formed: bool, setup: Setup, c: ConsoleId, x: Console) -> Decision
     Refusal::NoSuchConsole.unless(c.0 < setup.m)?;
     Refusal::ConsoleIsDown.unless(x.state.is_up())?;
     done(Part::ConsoleTo(rest(State::Down, x)), Sent::Keep)
+}
+
+// Console c, which is x, is restarted: its cells empty.
+#[tactic(auto, unfolding(crate::specs::Steps::restarts, crate::specs::Questions::guarded))]
+pub fn restart(formed: bool, setup: Setup, c: ConsoleId, x: Console) -> Decision
+    ensures { result ≡ restarts formed setup c.0 x }
+{
+    Refusal::NotWellFormed.unless(formed)?;
+    Refusal::NoSuchConsole.unless(c.0 < setup.m)?;
+    Refusal::ConsoleIsUp.unless(!x.state.is_up())?;
+    Refusal::LivesUsedUp.unless(x.life < MAX_LIFE)?;
+    done(Part::ConsoleTo(restarted(x)), Sent::Row(Frame::Nothing))
 }
 
 // Node k, which is y, goes down.

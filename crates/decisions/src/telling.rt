@@ -1,6 +1,6 @@
 // A console turns from asking to telling.
 ghost use Rattle.std.specs.Prelude.{◌≡◌, true, cond, ◌+◌, ◌<◌};
-ghost use Rattle.parts.specs.Limits.{max_ts};
+ghost use Rattle.parts.specs.Limits.{max_consoles, max_ts};
 ghost use Rattle.parts.specs.Parts.{writes};
 ghost use Rattle.decisions.specs.Changes.{next_tag, tells};
 
@@ -14,17 +14,25 @@ fn next_ts(ts: u32) -> u32
     if ts < MAX_TS { ts + 1 } else { ts }
 }
 
-// The tag to tell: a write chooses the next one, a read keeps its best.
+// The console's number in a tag, which has room for those of a board.
+fn own_number(c: ConsoleId) -> u16
+    ensures { c.0 < max_consoles → result ≡ c.0 }
+{
+    u16::try_from(c.0).unwrap_or(0)
+}
+
+// The tag to tell: a write chooses the next one, with its console's life, a read keeps its best.
 #[tactic(auto, unfolding(crate::specs::Changes::next_tag))]
 fn told_tag(c: ConsoleId, x: Console) -> Tag
-    ensures { (writes x.state ≡ true → x.best.ts < max_ts) → result ≡ cond (writes x.state) (next_tag c.0 x) x.best }
+    ensures { c.0 < max_consoles → (writes x.state ≡ true → x.best.ts < max_ts) → result ≡ cond (writes x.state) (next_tag c.0 x) x.best }
 {
     if !x.state.is_writing() {
         return x.best;
     }
     Tag {
         ts: next_ts(x.best.ts),
-        console: c.0,
+        console: own_number(c),
+        life: x.life,
     }
 }
 
@@ -39,10 +47,10 @@ fn told_value(x: Console) -> u32
     }
 }
 
-// The console as it turns, where a write's timestamp can grow (question 10).
+// The console as it turns, where a tag has room for its number and a write's timestamp can grow (question 10).
 #[tactic(auto, unfolding(crate::specs::Changes::tells))]
 pub fn tell(c: ConsoleId, x: Console) -> Console
-    ensures { (writes x.state ≡ true → x.best.ts < max_ts) → result ≡ tells c.0 x }
+    ensures { c.0 < max_consoles → (writes x.state ≡ true → x.best.ts < max_ts) → result ≡ tells c.0 x }
 {
     Console {
         state: x.state.to_telling(),

@@ -1,5 +1,5 @@
 // The README's worked example, P2 of document 01, by the proved steps. Each answer is a line: its outcome's number, its
-// refusal, and its tag's timestamp, console number and value.
+// refusal, and its tag's timestamp, console number, value and life.
 #![tactic(auto)]
 
 use board::{Answer, Board, ConsoleId, NodeId};
@@ -27,12 +27,13 @@ fn twice(rt: &impl Print, b: Board, k: NodeId) -> io::Result<Board> {
 fn next(rt: &impl Print, a: Answer) -> io::Result<Board> {
     let tag = a.outcome.tag();
     println!(rt;
-        "{},{},{},{},{}",
+        "{},{},{},{},{},{}",
         a.outcome.number(),
         a.refusal_number(),
         tag.ts,
         tag.console,
-        a.outcome.value()
+        a.outcome.value(),
+        tag.life
     )?;
     Ok(a.board)
 }

@@ -1,6 +1,7 @@
 -- The runs of specs/Reached.antt, by computation: P4 takes as many deliveries as the bound allows, a closed operation counts no
 -- more, with two of three nodes down there is no frame that can be delivered, and no majority, until one of them
--- comes back, and a read finishes early under release 2 alone.
+-- comes back, a read finishes early under release 2 alone, and a restarted console writes under another tag than
+-- before, which a read then prefers.
 use Prim.Native.Nat.{◌+◌, ◌*◌}
 use mathlib.Core.List.{List, map, ◌∷◌, []}
 use native.Mathlib.Omega.{arith}
@@ -10,13 +11,14 @@ use Rattle.parts.specs.Finite.{count}
 use Rattle.parts.specs.Sizes.{majority}
 use Rattle.parts.specs.declared.Release.TheVariants.{One, Two}
 use Rattle.parts.specs.declared.Setup.{Setup}
+use Rattle.board.specs.Boards.{frame_at}
 use Rattle.board.specs.Deliver.{deliver}
 use Rattle.board.specs.Runs.{Step}
 use Rattle.board.specs.Steps.{setup_of}
 use Rattle.board.proofs.Opened.{opened_step}
 use Rattle.guarantee.specs.Claim.{HasDeliverable, here}
 use Rattle.guarantee.specs.Log.{Run, after, next, noted, of_console, run, start, tally, up_after, writes_begun}
-use Rattle.guarantee.specs.Reached.{all_back_refusals, all_back_steps, back_refusals, back_steps, late_log, late_steps, mixed_log, mixed_steps, p4_log, p4_steps, quiet_log, quiet_log_under_1, quiet_steps, stuck_log, stuck_refusals, stuck_steps}
+use Rattle.guarantee.specs.Reached.{all_back_refusals, all_back_steps, back_refusals, back_steps, landed_steps, late_log, late_steps, mixed_log, mixed_steps, p4_log, p4_steps, quiet_log, quiet_log_under_1, quiet_steps, reread_log, reread_steps, restarted_log, restarted_puts, restarted_steps, stuck_log, stuck_refusals, stuck_steps}
 use Rattle.guarantee.proofs.Theorem.{demand_3}
 
 -- a run with every definition opened
@@ -92,3 +94,16 @@ quiet_early = refl
 quiet_turned : (whole (setup_of 3 2 One) quiet_steps).ops ≡ quiet_log_under_1
 unfolding whole quiet_steps quiet_log_under_1
 quiet_turned = refl
+
+restarted_reaches : (whole (setup_of 3 1 One) restarted_steps).ops ≡ restarted_log
+unfolding whole restarted_steps restarted_log
+restarted_reaches = refl
+
+-- the first write's put waits for node 1 when the console goes down, the second's for node 0 at the end
+restarted_two : frame_at (whole (setup_of 3 1 One) landed_steps).board 0 1 ∷ frame_at (whole (setup_of 3 1 One) restarted_steps).board 0 0 ∷ [] ≡ restarted_puts
+unfolding whole landed_steps restarted_steps restarted_puts
+restarted_two = refl
+
+reread_fresh : (whole (setup_of 3 1 One) reread_steps).ops ≡ reread_log
+unfolding whole reread_steps reread_log
+reread_fresh = refl

@@ -21,15 +21,15 @@ use Rattle.parts.specs.declared.Kind.TheVariants.{Read, Write}
 use Rattle.parts.specs.declared.Node.{Node}
 use Rattle.parts.specs.declared.Setup.{Setup}
 use Rattle.decisions.specs.Changes.{acked, awaits, takes_in}
-use Rattle.decisions.specs.Steps.{Decision, begins, ends, falls, rises}
+use Rattle.decisions.specs.Steps.{Decision, begins, ends, falls, restarts, rises}
 use Rattle.decisions.specs.Deliver.{acknowledged, delivered, discards, finished, finishes_early, heard, is_withdrawn, on_ack, on_ask, on_frame, on_put, on_reply, replied, turned}
 use Rattle.decisions.specs.Questions.{Question, guarded, has_next_ts, node_is_up}
 use Rattle.board.specs.Answers.{refuse}
 use Rattle.board.specs.Applied.{applied}
 use Rattle.board.specs.Boards.{console_at, frame_at, node_at}
 use Rattle.board.specs.Deliver.{deliver}
-use Rattle.board.specs.Runs.{BeginRead, BeginWrite, ConsoleDown, Deliver, NodeDown, NodeUp, step}
-use Rattle.board.specs.Steps.{begin, console_down, fresh, node_down, node_up}
+use Rattle.board.specs.Runs.{BeginRead, BeginWrite, ConsoleDown, Deliver, NodeDown, NodeUp, Restart, step}
+use Rattle.board.specs.Steps.{begin, console_down, fresh, node_down, node_up, restart}
 use Rattle.board.specs.WellFormed.{well_formed}
 use Rattle.board.specs.declared.Board.{Board}
 use Rattle.guarantee.specs.Claim.{◌also◌, All, Any, here, none, there}
@@ -62,6 +62,10 @@ asked P (q ∷ qs) refused (n also ns) h = split P q.yes (λ _. asked P qs refus
 begins_among : (formed : Bool) (σ : Setup) (c : ℕ) (w : Kind) (v : ℕ) (x : Console) → Among (1 ∷ 4 ∷ 6 ∷ 7 ∷ []) (begins formed σ c w v x)
 unfolding begins
 begins_among formed σ c w v x = asked (Among (1 ∷ 4 ∷ 6 ∷ 7 ∷ [])) _ Err (here refl also there (here refl) also there (there (here refl)) also there (there (there (here refl))) also none) refl
+
+restarts_among : (formed : Bool) (σ : Setup) (c : ℕ) (x : Console) → Among (1 ∷ 4 ∷ 15 ∷ 16 ∷ []) (restarts formed σ c x)
+unfolding restarts
+restarts_among formed σ c x = asked (Among (1 ∷ 4 ∷ 15 ∷ 16 ∷ [])) _ Err (here refl also there (here refl) also there (there (here refl)) also there (there (there (here refl))) also none) refl
 
 -- three questions, whatever their numbers
 three_among : (q₁ q₂ q₃ : Question) (d : Decision) → Among (number_of q₁.refusal ∷ number_of q₂.refusal ∷ number_of q₃.refusal ∷ []) d
@@ -104,13 +108,14 @@ delivered_among formed σ c k x y f = asked (Among deliver's) _ Err (here refl a
 -- ---- the theorems
 
 pub demand_1 : Demand1
-unfolding step begin node_down node_up console_down deliver ends falls rises
+unfolding step begin node_down node_up console_down restart deliver ends falls rises
 demand_1 b (BeginRead c) = applied_numbered c 0 _ (begins_among (well_formed b) b.setup c Read 0 (console_at b c))
 demand_1 b (BeginWrite c v) = applied_numbered c 0 _ (begins_among (well_formed b) b.setup c Write v (console_at b c))
 demand_1 b (Deliver c k) = applied_numbered c k _ (delivered_among (well_formed b) b.setup c k (console_at b c) (node_at b k) (frame_at b c k))
 demand_1 b (NodeDown k) = applied_numbered 0 k _ (three_among _ _ _ _ refl)
 demand_1 b (ConsoleDown c) = applied_numbered c 0 _ (three_among _ _ _ _ refl)
 demand_1 b (NodeUp k) = applied_numbered 0 k _ (three_among _ _ _ _ refl)
+demand_1 b (Restart c) = applied_numbered c 0 _ (restarts_among (well_formed b) b.setup c (console_at b c))
 
 pub fresh_numbered : FreshNumbered
 unfolding fresh

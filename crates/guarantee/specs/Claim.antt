@@ -1,10 +1,11 @@
--- Demand 3, as document 01's 'What demand 3 speaks of' and document 02's Papers 2 and 4 read it: one claim about every run from
--- a fresh board of any allowed size, under either release. proofs/Theorem.antt proves it.
+-- Demand 3, as document 01's 'What demand 3 speaks of' and document 02's Papers 2, 4 and 7 read it: one claim about
+-- every run from a fresh board of any allowed size, under either release. proofs/Theorem.antt proves it.
 use Rattle.std.specs.Prelude.{ℕ, ◌+◌, ◌*◌, ◌≤◌, ◌<◌, true, List, [], ◌∷◌, ◌⊎◌, ◌≡◌}
 use Rattle.parts.specs.Finite.{count}
 use Rattle.parts.specs.Outcomes.{accepted}
 use Rattle.parts.specs.Limits.{max_nodes, max_consoles}
 use Rattle.parts.specs.Sizes.{majority}
+use Rattle.parts.specs.Tags.{greater}
 use Rattle.parts.specs.Parts.{is_waiting}
 use Rattle.parts.specs.declared.Setup.{Setup}
 use Rattle.parts.specs.declared.Tag.{Tag}
@@ -43,10 +44,15 @@ HasDeliverable σ r c = (k : ℕ) × (k < σ.n) × (accepted (step r.board (Deli
 abbrev pub FinishedBefore : Op → Op → Type 0
 FinishedBefore x y = (x.status ≡ Complete) × (y.status ≡ Complete) × (x.ended < y.began)
 
--- the paper's own order, written out: the claim does not go by the register's test of tags. 'Tag a is greater than tag b if its ts is
--- greater, or the ts are equal and its console number is greater'
+-- the papers' own order, written out: the claim does not go by the register's test of tags. 'Tag a is greater than tag
+-- b if its ts is greater, or the ts are equal and its console number is greater'; the life is 'compared after ts and
+-- console'
 abbrev pub Higher : Tag → Tag → Type 0
-Higher a b = (b.ts < a.ts) ⊎ ((a.ts ≡ b.ts) × (b.console < a.console))
+Higher a b = (b.ts < a.ts) ⊎ ((a.ts ≡ b.ts) × ((b.console < a.console) ⊎ ((a.console ≡ b.console) × (b.life < a.life))))
+
+-- it is the register's order: in a coarser order, or in one turned round, the claim would say less
+abbrev pub HigherIsGreater : Type 0
+HigherIsGreater = (a b : Tag) → (greater a b ≡ true → Higher a b) × (Higher a b → greater a b ≡ true)
 
 -- y's final tag is no lower than x's, and higher if y wrote
 abbrev pub Fresher : Op → Op → Type 0
@@ -72,7 +78,7 @@ pub record Demand3 (σ : Setup) (r : Run) : Type 0 where
 abbrev pub max_writes : ℕ
 max_writes = 4000000000
 
--- 'For every list of begin reads, begin writes, deliveries, node downs and console downs', and node ups, 'refused ones
--- included, from a fresh board of any allowed size'. 'Demand 3's three rules cover both releases'
+-- 'For every list of begin reads, begin writes, deliveries, node downs and console downs', node ups and restarts,
+-- 'refused ones included, from a fresh board of any allowed size'. 'Demand 3's three rules cover both releases'
 abbrev pub Claim : Type 0
 Claim = (σ : Setup) → 1 ≤ σ.n → σ.n ≤ max_nodes → 1 ≤ σ.m → σ.m ≤ max_consoles → (ss : List Step) → writes_begun (run σ ss) ≤ max_writes → Demand3 σ (run σ ss)

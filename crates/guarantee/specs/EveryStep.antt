@@ -9,13 +9,14 @@ use Rattle.board.specs.declared.Answer.{Answer}
 use Rattle.board.specs.Boards.{fresh_board}
 use Rattle.board.specs.WellFormed.{well_formed}
 use Rattle.board.specs.Steps.{fresh, smallest}
-use Rattle.board.specs.Runs.{Step, BeginRead, BeginWrite, Deliver, NodeDown, ConsoleDown, NodeUp, step}
+use Rattle.board.specs.Runs.{Step, BeginRead, BeginWrite, Deliver, NodeDown, ConsoleDown, NodeUp, Restart, step}
 use Rattle.guarantee.specs.Claim.{Any}
 
 -- ---- demand 1
 
--- the refusals that a step may give (document 01, 'Questions put before each step'; node up's: document 02, Paper 2), written out, so that the
--- claim does not go by the steps' own lists. That each of them is given is seen in board's OrderRuns
+-- the refusals that a step may give (document 01, 'Questions put before each step'; node up's: document 02, Paper 2;
+-- restart's: Paper 7), written out, so that the claim does not go by the steps' own lists. That each of them is given
+-- is seen in board's OrderRuns and RestartRuns
 abbrev pub may_refuse : Step → List ℕ
 may_refuse (BeginRead c) = 1 ∷ 4 ∷ 6 ∷ 7 ∷ []
 may_refuse (BeginWrite c v) = 1 ∷ 4 ∷ 6 ∷ 7 ∷ []
@@ -23,6 +24,7 @@ may_refuse (Deliver c k) = 1 ∷ 4 ∷ 5 ∷ 8 ∷ 9 ∷ 10 ∷ []
 may_refuse (NodeDown k) = 1 ∷ 5 ∷ 9 ∷ []
 may_refuse (ConsoleDown c) = 1 ∷ 4 ∷ 6 ∷ []
 may_refuse (NodeUp k) = 1 ∷ 5 ∷ 14 ∷ []
+may_refuse (Restart c) = 1 ∷ 4 ∷ 15 ∷ 16 ∷ []
 
 -- the answer of a step whose refusals hand back b and have one of these numbers
 pub record Numbered (b : Board) (numbers : List ℕ) (a : Answer) : Type 0 where

@@ -1,5 +1,5 @@
--- A run and its log: document 01, 'What demand 3 speaks of', with node up (document 02, Paper 2), under either release (Paper 4).
--- The log is built from the steps and their answers alone.
+-- A run and its log: document 01, 'What demand 3 speaks of', with node up (document 02, Paper 2) and restart (Paper 7),
+-- under either release (Paper 4). The log is built from the steps and their answers alone.
 use Rattle.std.specs.Prelude.{ℕ, ◌+◌, Bool, true, false, cond, ◌&&◌, List, [], ◌∷◌, map, eqb}
 use Rattle.parts.specs.declared.Setup.{Setup}
 use Rattle.parts.specs.declared.Tag.{Tag}
@@ -11,7 +11,7 @@ use Rattle.parts.specs.declared.Outcome.{Outcome}
 use Rattle.parts.specs.declared.Outcome.TheVariants.{Refused, Done, Handed, Heard, Turned, Finished, Discarded}
 use Rattle.board.specs.declared.Answer.{Answer}
 use Rattle.board.specs.Steps.{fresh}
-use Rattle.board.specs.Runs.{Step, BeginRead, BeginWrite, Deliver, NodeDown, ConsoleDown, NodeUp, step}
+use Rattle.board.specs.Runs.{Step, BeginRead, BeginWrite, Deliver, NodeDown, ConsoleDown, NodeUp, Restart, step}
 
 -- ---- operations
 
@@ -89,6 +89,7 @@ noted i (Deliver c k) o ops = map (of_console c (delivering i o)) ops
 noted i (NodeDown k) o ops = ops
 noted i (ConsoleDown c) o ops = map (of_console c losing) ops
 noted i (NodeUp k) o ops = ops
+noted i (Restart c) o ops = ops
 
 -- 'A machine is up until an accepted node down of it', and from then on by the last accepted node down or node up of it
 unfoldable pub up_after : Step → (ℕ → Bool) → ℕ → Bool
@@ -98,6 +99,7 @@ up_after (Deliver c k) u j = u j
 up_after (NodeDown k) u j = cond (eqb j k) false (u j)
 up_after (ConsoleDown c) u j = u j
 up_after (NodeUp k) u j = cond (eqb j k) true (u j)
+up_after (Restart c) u j = u j
 
 -- ---- runs
 
@@ -129,7 +131,7 @@ after r (s ∷ ss) = after (next r s) ss
 unfoldable pub start : Setup → Run
 start σ = record { place = 1; board = (fresh σ).board; ops = []; up = λ _. true }
 
--- 'A run from a fresh board is a list of the five kinds of step'; node up 'joins the five'
+-- 'A run from a fresh board is a list of the five kinds of step'; node up and restart 'join' them
 unfoldable pub run : Setup → List Step → Run
 run σ ss = after (start σ) ss
 

@@ -1,13 +1,15 @@
 -- Runs that reach the limits of the claim, or go through what the P runs leave out, and what their logs must be.
 -- proofs/ReachedHold.antt computes them.
 use Rattle.std.specs.Prelude.{ℕ, true, false, List, [], ◌∷◌, ◌++◌}
+use Rattle.parts.specs.declared.Frame.{Frame}
+use Rattle.parts.specs.declared.Frame.TheVariants.{Put}
 use Rattle.parts.specs.declared.Tag.{Tag}
 use Rattle.parts.specs.Tags.{zero_tag}
-use Rattle.board.specs.Runs.{Step, BeginRead, BeginWrite, Deliver, NodeDown, ConsoleDown, NodeUp}
+use Rattle.board.specs.Runs.{Step, BeginRead, BeginWrite, Deliver, NodeDown, ConsoleDown, NodeUp, Restart}
 use Rattle.guarantee.specs.Log.{Op, Open, Complete, Lost}
 
 abbrev one_one : Tag
-one_one = record { ts = 1; console = 1 }
+one_one = record { ts = 1; console = 1; life = 0 }
 
 -- P4, on three nodes and two consoles: 3 + 2 + 3 + 2 deliveries, which is 2 (n + q)
 unfoldable pub p4_steps : List Step
@@ -101,7 +103,7 @@ mixed_steps =
     ∷ []
 
 abbrev one_zero : Tag
-one_zero = record { ts = 1; console = 0 }
+one_zero = record { ts = 1; console = 0; life = 0 }
 
 unfoldable pub mixed_log : List Op
 mixed_log =
@@ -144,3 +146,73 @@ quiet_log_under_1 =
     record { console = 0; wrote = false; began = 10; took = 6; turned = true; status = Open; ended = 0; tag = zero_tag; value = 0 }
     ∷ record { console = 1; wrote = true; began = 1; took = 8; turned = true; status = Complete; ended = 9; tag = one_one; value = 7 }
     ∷ []
+
+-- on three nodes and one console: a write that has turned, and whose put has landed at node 0
+unfoldable pub landed_steps : List Step
+landed_steps =
+    BeginWrite 0 5
+    ∷ Deliver 0 0
+    ∷ Deliver 0 0
+    ∷ Deliver 0 1
+    ∷ Deliver 0 1
+    ∷ Deliver 0 0
+    ∷ []
+
+-- and on from there: it is lost with its console, and a begin is refused while that is down. Once restarted the console
+-- refuses to restart again, and writes by nodes 1 and 2, under the same timestamp and in its next life
+unfoldable pub restarted_steps : List Step
+unfolding landed_steps
+restarted_steps =
+    landed_steps
+    ++ (ConsoleDown 0
+    ∷ BeginWrite 0 6
+    ∷ Restart 0
+    ∷ Restart 0
+    ∷ BeginWrite 0 6
+    ∷ Deliver 0 1
+    ∷ Deliver 0 1
+    ∷ Deliver 0 2
+    ∷ Deliver 0 2
+    ∷ Deliver 0 1
+    ∷ Deliver 0 1
+    ∷ Deliver 0 2
+    ∷ Deliver 0 2
+    ∷ [])
+
+-- tag (1, 0) in its console's next life
+abbrev one_zero_one : Tag
+one_zero_one = record { ts = 1; console = 0; life = 1 }
+
+unfoldable pub restarted_log : List Op
+restarted_log =
+    record { console = 0; wrote = true; began = 11; took = 8; turned = true; status = Complete; ended = 19; tag = one_zero_one; value = 6 }
+    ∷ record { console = 0; wrote = true; began = 1; took = 5; turned = true; status = Lost; ended = 0; tag = zero_tag; value = 0 }
+    ∷ []
+
+-- the puts of its two writes. Their tags differ in the life alone: without it one tag would have two values
+unfoldable pub restarted_puts : List Frame
+restarted_puts = Put one_zero 5 ∷ Put one_zero_one 6 ∷ []
+
+-- and on from there: the console reads by node 0, which holds the lost write's value, and by node 1
+unfoldable pub reread_steps : List Step
+unfolding restarted_steps
+reread_steps =
+    restarted_steps
+    ++ (BeginRead 0
+    ∷ Deliver 0 0
+    ∷ Deliver 0 0
+    ∷ Deliver 0 1
+    ∷ Deliver 0 1
+    ∷ Deliver 0 0
+    ∷ Deliver 0 0
+    ∷ Deliver 0 1
+    ∷ Deliver 0 1
+    ∷ [])
+
+-- the read gives the value of the write that finished. Of two values under one tag it would give the lost write's, the
+-- first that it heard: 'on equal tags best keeps its value'
+unfoldable pub reread_log : List Op
+unfolding restarted_log
+reread_log =
+    record { console = 0; wrote = false; began = 20; took = 8; turned = true; status = Complete; ended = 28; tag = one_zero_one; value = 6 }
+    ∷ restarted_log

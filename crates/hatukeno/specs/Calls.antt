@@ -1,4 +1,5 @@
--- Steps on a board that stands in lent words: one step a call (Called). The answer goes into six words lent beside it.
+-- Steps on a board that stands in lent words: one step a call (Called). The answer goes into seven words lent beside
+-- it.
 use Rattle.std.specs.Prelude.{ℕ, cond, List, [], ◌∷◌, ◌≡◌, eqb, leb, length, Result, Ok, Err}
 use Rattle.std.proofs.lemmas.List.Edits.{sets}
 use Rattle.parts.specs.Outcomes.{accepted, outcome_number, outcome_tag, outcome_value, compared_number}
@@ -10,11 +11,18 @@ use Rattle.hatukeno.specs.declared.lengths.Short.TheVariants.{Board, Answers, St
 
 -- the words of an answer
 abbrev pub answer_words : ℕ
-answer_words = 6
+answer_words = 7
 
--- outcome, refusal, tag, value and comparison
+-- outcome, refusal, the tag's ts and console, value, comparison, and the tag's life
 unfoldable pub answer_fields : Answer → List ℕ
-answer_fields a = outcome_number a.outcome ∷ refusal_number a.refusal ∷ (outcome_tag a.outcome).ts ∷ (outcome_tag a.outcome).console ∷ outcome_value a.outcome ∷ compared_number a.compared ∷ []
+answer_fields a =
+    outcome_number a.outcome
+    ∷ refusal_number a.refusal
+    ∷ (outcome_tag a.outcome).ts ∷ (outcome_tag a.outcome).console
+    ∷ outcome_value a.outcome
+    ∷ compared_number a.compared
+    ∷ (outcome_tag a.outcome).life
+    ∷ []
 
 -- in the words from p on
 unfoldable pub put_answer : List ℕ → ℕ → Answer → List ℕ

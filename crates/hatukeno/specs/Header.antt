@@ -15,7 +15,7 @@ use Rattle.hatukeno.specs.Lists.{step_at}
 
 -- numbers that all differ
 abbrev tag : Tag
-tag = record { ts = 21; console = 6 }
+tag = record { ts = 21; console = 6; life = 8 }
 
 -- what the definitions give
 unfoldable pub as_written : List (List ℕ)
@@ -32,13 +32,13 @@ as_written =
 -- what the header says
 unfoldable pub in_the_header : List (List ℕ)
 in_the_header =
-    (0 ∷ 9 ∷ 0 ∷ 0 ∷ 0 ∷ 0 ∷ [])
-    ∷ (1 ∷ 0 ∷ 0 ∷ 0 ∷ 0 ∷ 0 ∷ [])
-    ∷ (2 ∷ 0 ∷ 0 ∷ 0 ∷ 0 ∷ 0 ∷ [])
-    ∷ (5 ∷ 0 ∷ 21 ∷ 6 ∷ 42 ∷ 0 ∷ [])
-    ∷ (5 ∷ 0 ∷ 21 ∷ 6 ∷ 42 ∷ 1 ∷ [])
-    ∷ (5 ∷ 0 ∷ 21 ∷ 6 ∷ 42 ∷ 2 ∷ [])
-    ∷ (5 ∷ 0 ∷ 21 ∷ 6 ∷ 42 ∷ 3 ∷ [])
+    (0 ∷ 9 ∷ 0 ∷ 0 ∷ 0 ∷ 0 ∷ 0 ∷ [])
+    ∷ (1 ∷ 0 ∷ 0 ∷ 0 ∷ 0 ∷ 0 ∷ 0 ∷ [])
+    ∷ (2 ∷ 0 ∷ 0 ∷ 0 ∷ 0 ∷ 0 ∷ 0 ∷ [])
+    ∷ (5 ∷ 0 ∷ 21 ∷ 6 ∷ 42 ∷ 0 ∷ 8 ∷ [])
+    ∷ (5 ∷ 0 ∷ 21 ∷ 6 ∷ 42 ∷ 1 ∷ 8 ∷ [])
+    ∷ (5 ∷ 0 ∷ 21 ∷ 6 ∷ 42 ∷ 2 ∷ 8 ∷ [])
+    ∷ (5 ∷ 0 ∷ 21 ∷ 6 ∷ 42 ∷ 3 ∷ 8 ∷ [])
     ∷ []
 
 -- 'its number and its two numbers': console 1 begins a write of 7, and its frame is delivered to node 0

@@ -1,4 +1,4 @@
--- A list of steps put to one board that stands in lent words (Ran): three words a step, six words an answer.
+-- A list of steps put to one board that stands in lent words (Ran): three words a step, seven words an answer.
 use Rattle.std.specs.Prelude.{ℕ, zero, suc, ◌+◌, ◌*◌, ◌/◌, ◌%◌, true, false, cond, List, ◌≡◌, eqb, leb, length}
 use Rattle.parts.specs.Outcomes.{accepted}
 use Rattle.board.specs.declared.Answer.{Answer}

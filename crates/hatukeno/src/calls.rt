@@ -2,7 +2,7 @@
 // next board back into w (Called).
 ghost use Rattle.std.specs.Prelude.{◌≡◌, ◌+◌, ◌≤◌, cond, length};
 ghost use Rattle.parts.specs.declared.Release.TheVariants.{One, Two};
-ghost use Rattle.board.specs.Steps.{setup_of, fresh, begin_read, begin_write, node_down, console_down, node_up};
+ghost use Rattle.board.specs.Steps.{setup_of, fresh, begin_read, begin_write, node_down, console_down, node_up, restart};
 ghost use Rattle.board.specs.Deliver.{deliver};
 ghost use Rattle.layout.specs.Layout.{board_words, encoded};
 ghost use Rattle.layout.specs.Standing.{decoded};
@@ -15,7 +15,8 @@ use layout::writing::{encode, put_words};
 use parts::outcomes::compared_number;
 use parts::{ConsoleId, NodeId, Release};
 
-// Writes the answer into six words from p on, as put_words takes words and place. The caller has seen that they are there.
+// Writes the answer into seven words from p on, as put_words takes words and place. The caller has seen that they are
+// there.
 #[tactic(auto, unfolding(crate::specs::Calls::put_answer, crate::specs::Calls::answer_fields))]
 pub(crate) fn put_answer(s: &mut [u32], p: usize, a: Answer)
     requires { p + answer_words ≤ length s.old }
@@ -26,9 +27,10 @@ pub(crate) fn put_answer(s: &mut [u32], p: usize, a: Answer)
         a.outcome.number(),
         a.refusal_number(),
         tag.ts,
-        tag.console,
+        u32::from(tag.console),
         a.outcome.value(),
         compared_number(a.compared),
+        u32::from(tag.life),
     ];
     put_words(s, p, &fields);
 }
@@ -112,4 +114,12 @@ pub extern "C" fn board_node_up(w: &mut [u32], s: &mut [u32], k: u32) -> u32
     ensures { Called (node_up (decoded w.old) k) w.old s.old result w.new s.new }
 {
     respond(w, s, decode(w).node_up(NodeId(k)))
+}
+
+// Console c is restarted.
+#[unsafe(no_mangle)]
+pub extern "C" fn board_restart(w: &mut [u32], s: &mut [u32], c: u32) -> u32
+    ensures { Called (restart (decoded w.old) c) w.old s.old result w.new s.new }
+{
+    respond(w, s, decode(w).restart(ConsoleId(c)))
 }

@@ -6,7 +6,7 @@ ghost use Rattle.hatukeno.specs.Lists.{list_short_by};
 use layout::BOARD_WORDS;
 
 // The words of an answer, and of a step in a list.
-pub(crate) const ANSWER_WORDS: usize = 6;
+pub(crate) const ANSWER_WORDS: usize = 7;
 
 pub(crate) const STEP_WORDS: usize = 3;
 

@@ -1,8 +1,9 @@
 -- A node, a console and a cell each: what is written is read again and stands for a part; and what stands for one is
 -- what that part is written as.
-use Rattle.std.proofs.Common.{ℕ, zero, suc, ◌%◌, ◌<◌, Bool, true, false, not, ◌&&◌, ◌||◌, List, [], ◌∷◌, length, eqb, leb, ◌≡◌, refl, sym, ◌∙◌, arith}
+use Rattle.std.proofs.Common.{ℕ, zero, suc, ◌+◌, ◌*◌, ◌/◌, ◌%◌, ◌<◌, Bool, true, false, not, ◌&&◌, ◌||◌, List, [], ◌∷◌, length, eqb, leb, ◌≡◌, refl, sym, ap, ◌∙◌, arith}
 use Rattle.std.proofs.lemmas.List.{ext_get_or}
 use borrow.Author.Tests.{eqb-true, leb-true, le-leb}
+use Rattle.parts.specs.declared.Tag.{Tag}
 use Rattle.parts.specs.declared.Release.{Release}
 use Rattle.parts.specs.declared.Release.TheVariants.{One, Two}
 use Rattle.parts.specs.declared.Frame.{Frame}
@@ -14,11 +15,11 @@ use Rattle.parts.specs.Finite.{one}
 use Rattle.parts.specs.Parts.{cell_of}
 use Rattle.parts.proofs.FiniteLaws.{and_left, and_right}
 use Rattle.layout.proofs.Rows.{PartLaws}
-use Rattle.layout.specs.Layout.{Byte, word, node_words, console_words, cell_words, tag_of, release_of, node_from, state_of, console_from, frame_of, cell_from, release_number, node_fields, state_number, console_fields, frame_number, frame_tag, frame_value, cell_fields}
+use Rattle.layout.specs.Layout.{TagFits, NodeFits, ConsoleFits, CellFits, half_word, word, node_words, console_words, cell_words, tag_of, release_of, node_from, state_of, console_from, frame_of, cell_from, release_number, owner_word, node_fields, state_number, console_fields, frame_number, frame_tag, frame_value, cell_fields}
 use Rattle.layout.specs.Wide.{node_wide, console_wide, cell_wide}
-use Rattle.layout.specs.Standing.{last_state, last_frame, last_set, last_mark, release_stands, node_stands, console_stands, frame_stands, cell_stands}
+use Rattle.layout.specs.Standing.{last_state, last_frame, last_set, last_mark, last_half, release_stands, node_stands, console_stands, frame_stands, cell_stands}
 
--- ---- marks and releases
+-- ---- marks and setups
 
 flag_back : (u : Bool) → not (eqb (one u) 0) ≡ u
 flag_back true = refl
@@ -54,24 +55,41 @@ release_again i h = go (eqb i 1) refl (eqb i 2) refl
         let none : false ≡ true = rw (e, f) at h in
         cc
 
+-- ---- tags: console and life share a word
+
+tag_back : (t : Tag) → TagFits t → tag_of t.ts (owner_word t) ≡ t
+unfolding tag_of owner_word
+tag_back t fits = rw (console, life)
+  where
+    console : (t.console * half_word + t.life) / half_word ≡ t.console
+    console = omega (arith, fits.life)
+
+    life : (t.console * half_word + t.life) % half_word ≡ t.life
+    life = omega (arith, fits.life)
+
+-- every word is the owner of some tag
+owner_again : (t o : ℕ) → owner_word (tag_of t o) ≡ o
+unfolding tag_of owner_word
+owner_again t o = omega arith
+
 -- ---- nodes
 
 node_again : (u : List ℕ) → length u ≡ node_words → node_stands u ≡ true → node_fields (node_from u) ≡ u
-unfolding node_fields node_from node_stands
+unfolding node_fields node_from node_stands tag_of
 node_again u long h = ext_get_or 0 (node_fields (node_from u)) u (sym long) fields
   where
     fields : (k : ℕ) → k < node_words → word (node_fields (node_from u)) k ≡ word u k
     fields zero l = flag_again (word u 0) h
     fields (suc zero) l = refl
-    fields (suc (suc zero)) l = refl
+    fields (suc (suc zero)) l = owner_again (word u 1) (word u 2)
     fields (suc (suc (suc zero))) l = refl
     fields (suc (suc (suc (suc k)))) l = absurd (omega arith)
 
-pub node_laws : PartLaws node_words (λ _. Unit {0}) node_from node_stands node_fields
+pub node_laws : PartLaws node_words NodeFits node_from node_stands node_fields
 unfolding node_fields node_from node_stands
 node_laws = record {
   wide = node_wide;
-  back = λ x _. rw (flag_back x.up);
+  back = λ x fits. rw (flag_back x.up, tag_back x.tag fits);
   standing = λ x _. flag_stands x.up;
   again = node_again;
 }
@@ -107,30 +125,40 @@ state_again (suc (suc (suc (suc (suc zero))))) h = refl
 state_again (suc (suc (suc (suc (suc (suc i)))))) h = absurd (omega (arith, leb-true (suc (suc (suc (suc (suc (suc i)))))) last_state h))
 
 console_again : (u : List ℕ) → length u ≡ console_words → console_stands u ≡ true → console_fields (console_from u) ≡ u
-unfolding console_fields console_from console_stands
+unfolding console_fields console_from console_stands tag_of
 console_again u long h = ext_get_or 0 (console_fields (console_from u)) u (sym long) fields
   where
+    three : (leb (word u 0) last_state && leb (word u 2) last_set && leb (word u 6) last_mark) ≡ true
+    three = and_left (leb (word u 0) last_state && leb (word u 2) last_set && leb (word u 6) last_mark) (leb (word u 7) last_half) h
+
     two : (leb (word u 0) last_state && leb (word u 2) last_set) ≡ true
-    two = and_left (leb (word u 0) last_state && leb (word u 2) last_set) (leb (word u 6) last_mark) h
+    two = and_left (leb (word u 0) last_state && leb (word u 2) last_set) (leb (word u 6) last_mark) three
 
     fields : (k : ℕ) → k < console_words → word (console_fields (console_from u)) k ≡ word u k
     fields zero l = state_again (word u 0) (and_left (leb (word u 0) last_state) (leb (word u 2) last_set) two)
     fields (suc zero) l = refl
     fields (suc (suc zero)) l = omega (arith, leb-true (word u 2) last_set (and_right (leb (word u 0) last_state) (leb (word u 2) last_set) two))
     fields (suc (suc (suc zero))) l = refl
-    fields (suc (suc (suc (suc zero)))) l = refl
+    fields (suc (suc (suc (suc zero)))) l = owner_again (word u 3) (word u 4)
     fields (suc (suc (suc (suc (suc zero))))) l = refl
-    fields (suc (suc (suc (suc (suc (suc zero)))))) l = flag_again (word u 6) (and_right (leb (word u 0) last_state && leb (word u 2) last_set) (leb (word u 6) last_mark) h)
-    fields (suc (suc (suc (suc (suc (suc (suc k))))))) l = absurd (omega arith)
+    fields (suc (suc (suc (suc (suc (suc zero)))))) l = flag_again (word u 6) (and_right (leb (word u 0) last_state && leb (word u 2) last_set) (leb (word u 6) last_mark) three)
+    fields (suc (suc (suc (suc (suc (suc (suc zero))))))) l = omega (arith, leb-true (word u 7) last_half (and_right (leb (word u 0) last_state && leb (word u 2) last_set && leb (word u 6) last_mark) (leb (word u 7) last_half) h))
+    fields (suc (suc (suc (suc (suc (suc (suc (suc k)))))))) l = absurd (omega arith)
 
-pub console_laws : PartLaws console_words Byte console_from console_stands console_fields
+pub console_laws : PartLaws console_words ConsoleFits console_from console_stands console_fields
 unfolding console_fields console_from console_stands
 console_laws = record {
   wide = console_wide;
-  back = λ x small.
-      let byte : x.answered % 256 ≡ x.answered = omega arith in
-      rw (state_back x.state, byte, flag_back x.alike);
-  standing = λ x small. rw (state_stands x.state, le-leb x.answered last_set (omega arith), flag_stands x.alike);
+  back = λ x fits.
+      let answered : x.answered % 256 ≡ x.answered = omega (arith, fits.answered) in
+      let life : x.life % half_word ≡ x.life = omega (arith, fits.life) in
+      rw (state_back x.state, answered, tag_back x.best fits.best, flag_back x.alike, life);
+  standing = λ x fits. rw (
+    state_stands x.state,
+    le-leb x.answered last_set (omega (arith, fits.answered)),
+    flag_stands x.alike,
+    le-leb x.life last_half (omega (arith, fits.life)),
+  );
   again = console_again;
 }
 
@@ -144,8 +172,8 @@ frame_back (Reply t v) = refl
 frame_back (Put t v) = refl
 frame_back Ack = refl
 
-frame_standing : (f : Frame) → frame_stands (frame_number f) (frame_tag f).ts (frame_tag f).console (frame_value f) ≡ true
-unfolding frame_stands frame_number frame_tag frame_value
+frame_standing : (f : Frame) → frame_stands (frame_number f) (frame_tag f).ts (owner_word (frame_tag f)) (frame_value f) ≡ true
+unfolding frame_stands frame_number frame_tag frame_value owner_word
 frame_standing Nothing = refl
 frame_standing Ask = refl
 frame_standing (Reply t v) = refl
@@ -153,21 +181,21 @@ frame_standing (Put t v) = refl
 frame_standing Ack = refl
 
 -- beside a frame without a tag all is 0
-zeros : (t c v : ℕ) → (eqb t 0 && eqb c 0 && eqb v 0) ≡ true → (t ≡ 0) × (c ≡ 0) × (v ≡ 0)
-zeros t c v h = (
-  eqb-true t 0 (and_left (eqb t 0) (eqb c 0) (and_left (eqb t 0 && eqb c 0) (eqb v 0) h)),
-  eqb-true c 0 (and_right (eqb t 0) (eqb c 0) (and_left (eqb t 0 && eqb c 0) (eqb v 0) h)),
-  eqb-true v 0 (and_right (eqb t 0 && eqb c 0) (eqb v 0) h),
+zeros : (t o v : ℕ) → (eqb t 0 && eqb o 0 && eqb v 0) ≡ true → (t ≡ 0) × (o ≡ 0) × (v ≡ 0)
+zeros t o v h = (
+  eqb-true t 0 (and_left (eqb t 0) (eqb o 0) (and_left (eqb t 0 && eqb o 0) (eqb v 0) h)),
+  eqb-true o 0 (and_right (eqb t 0) (eqb o 0) (and_left (eqb t 0 && eqb o 0) (eqb v 0) h)),
+  eqb-true v 0 (and_right (eqb t 0 && eqb o 0) (eqb v 0) h),
 )
 
-frame_again : (f t c v : ℕ) → frame_stands f t c v ≡ true → cell_fields (cell_of (frame_of f (tag_of t c) v)) ≡ f ∷ t ∷ c ∷ v ∷ []
-unfolding frame_stands frame_of cell_fields frame_number frame_tag frame_value
-frame_again zero t c v h = let z = zeros t c v h in rw (z.0, z.1, z.2)
-frame_again (suc zero) t c v h = let z = zeros t c v h in rw (z.0, z.1, z.2)
-frame_again (suc (suc zero)) t c v h = refl
-frame_again (suc (suc (suc zero))) t c v h = refl
-frame_again (suc (suc (suc (suc zero)))) t c v h = let z = zeros t c v h in rw (z.0, z.1, z.2)
-frame_again (suc (suc (suc (suc (suc f))))) t c v h = absurd (omega (arith, leb-true (suc (suc (suc (suc (suc f))))) last_frame (and_left (leb (suc (suc (suc (suc (suc f))))) last_frame) (eqb (suc (suc (suc (suc (suc f))))) 2 || eqb (suc (suc (suc (suc (suc f))))) 3 || (eqb t 0 && eqb c 0 && eqb v 0)) h)))
+frame_again : (f t o v : ℕ) → frame_stands f t o v ≡ true → cell_fields (cell_of (frame_of f (tag_of t o) v)) ≡ f ∷ t ∷ o ∷ v ∷ []
+unfolding frame_stands frame_of cell_fields frame_number frame_tag frame_value tag_of owner_word
+frame_again zero t o v h = let z = zeros t o v h in rw (z.0, z.1, z.2)
+frame_again (suc zero) t o v h = let z = zeros t o v h in rw (z.0, z.1, z.2)
+frame_again (suc (suc zero)) t o v h = ap (λ x. 2 ∷ t ∷ x ∷ v ∷ []) (owner_again t o)
+frame_again (suc (suc (suc zero))) t o v h = ap (λ x. 3 ∷ t ∷ x ∷ v ∷ []) (owner_again t o)
+frame_again (suc (suc (suc (suc zero)))) t o v h = let z = zeros t o v h in rw (z.0, z.1, z.2)
+frame_again (suc (suc (suc (suc (suc f))))) t o v h = absurd (omega (arith, leb-true (suc (suc (suc (suc (suc f))))) last_frame (and_left (leb (suc (suc (suc (suc (suc f))))) last_frame) (eqb (suc (suc (suc (suc (suc f))))) 2 || eqb (suc (suc (suc (suc (suc f))))) 3 || (eqb t 0 && eqb o 0 && eqb v 0)) h)))
 
 cell_again : (u : List ℕ) → length u ≡ cell_words → cell_stands u ≡ true → cell_fields (cell_from u) ≡ u
 unfolding cell_fields cell_from cell_stands
@@ -180,11 +208,11 @@ cell_again u long h = frame_again (word u 0) (word u 1) (word u 2) (word u 3) h 
     fields (suc (suc (suc zero))) l = refl
     fields (suc (suc (suc (suc k)))) l = absurd (omega arith)
 
-pub cell_laws : PartLaws cell_words (λ _. Unit {0}) cell_from cell_stands cell_fields
+pub cell_laws : PartLaws cell_words CellFits cell_from cell_stands cell_fields
 unfolding cell_fields cell_from cell_stands
 cell_laws = record {
   wide = cell_wide;
-  back = λ x _. rw (frame_back x.frame);
+  back = λ x fits. rw (tag_back (frame_tag x.frame) fits, frame_back x.frame);
   standing = λ x _. frame_standing x.frame;
   again = cell_again;
 }

@@ -3,14 +3,14 @@ use Rattle.std.proofs.Common.{ℕ, ◌*◌, ◌≤◌, true, List, [], ◌++◌,
 use Rattle.std.proofs.lemmas.List.{append_assoc, append-nil, length-append, drop_at, drop_all}
 use Rattle.std.proofs.lemmas.List.Edits.{sets, sets-eq}
 use Rattle.std.proofs.Math.Seq.{length-sets}
-use Rattle.std.specs.List.{All, flat_map}
+use Rattle.std.specs.List.{flat_map}
 use borrow.Author.Tests.{le-leb}
 use Rattle.parts.specs.Limits.{max_nodes, max_consoles, max_cells}
 use Rattle.board.specs.declared.Board.{Board}
 use Rattle.layout.specs.InWords.{all_from, all_stand}
-use Rattle.layout.specs.Layout.{Typed, board_words, setup_words, word, node_words, console_words, cell_words, node_offset, console_offset, cell_offset, setup_from, node_from, console_from, cell_from, board_in, setup_fields, node_fields, console_fields, cell_fields, board_fields, encoded}
+use Rattle.layout.specs.Layout.{Typed, board_words, setup_words, node_words, console_words, cell_words, node_offset, console_offset, cell_offset, setup_from, node_from, console_from, cell_from, board_in, setup_fields, node_fields, console_fields, cell_fields, board_fields, encoded}
 use Rattle.layout.specs.Wide.{node_wide, console_wide, cell_wide}
-use Rattle.layout.specs.Standing.{release_stands, node_stands, console_stands, cell_stands, parts_stand, stands, decoded}
+use Rattle.layout.specs.Standing.{setup_stands, node_stands, console_stands, cell_stands, parts_stand, stands, decoded}
 use Rattle.layout.proofs.PartsBack.{release_back, release_standing, node_laws, console_laws, cell_laws}
 use Rattle.layout.specs.Claims.{ReadBack}
 use Rattle.layout.proofs.Rows.{sets_append, fields_long, all_back, all_standing}
@@ -82,23 +82,21 @@ module _ (w : List ℕ) (b : Board) (h : board_words ≤ length w) (t : Typed b)
   from_cells : drop (cell_offset 0) all ≡ cells ++ rest
   from_cells = ap (drop (cell_offset 0)) at_cells ∙ drop_at (setup ++ nodes ++ consoles) (cells ++ rest) (cell_offset 0) before_cells
 
-  fits_any : {A : Type 0} (xs : List A) → All (λ _. Unit {0}) xs
-  fits_any xs k d l = tt
-
-  -- ---- each kind is read as it was
+  -- ---- each kind is read as it was. Of consoles the number alone is rewritten: a console has as many words as a board
+  -- has consoles
 
   setup_back : setup_from all ≡ b.setup
   unfolding setup_from setup_fields
   setup_back = rw at_nodes (rw (release_back b.setup.release))
 
   nodes_back : all_from node_from node_words max_nodes (drop (node_offset 0) all) ≡ b.nodes
-  nodes_back = rw (from_nodes, sym t.nodes_long) (all_back node_laws b.nodes _ (fits_any b.nodes))
+  nodes_back = rw (from_nodes, sym t.nodes_long) (all_back node_laws b.nodes _ t.nodes_fit)
 
   consoles_back : all_from console_from console_words max_consoles (drop (console_offset 0) all) ≡ b.consoles
-  consoles_back = rw (from_consoles, sym t.consoles_long) (all_back console_laws b.consoles _ t.bytes)
+  consoles_back = ap (λ n. all_from console_from console_words n (drop (console_offset 0) all)) (sym t.consoles_long) ∙ rw from_consoles (all_back console_laws b.consoles _ t.consoles_fit)
 
   cells_back : all_from cell_from cell_words max_cells (drop (cell_offset 0) all) ≡ b.cells
-  cells_back = rw (from_cells, sym t.cells_long) (all_back cell_laws b.cells _ (fits_any b.cells))
+  cells_back = rw (from_cells, sym t.cells_long) (all_back cell_laws b.cells _ t.cells_fit)
 
   board_back : board_in all ≡ b
   unfolding board_in
@@ -106,18 +104,18 @@ module _ (w : List ℕ) (b : Board) (h : board_words ≤ length w) (t : Typed b)
 
   -- ---- and stands
 
-  release_stands_lem : release_stands (word all 2) ≡ true
-  unfolding setup_fields
-  release_stands_lem = rw at_nodes (release_standing b.setup.release)
+  setup_stands_lem : setup_stands all ≡ true
+  unfolding setup_stands setup_fields
+  setup_stands_lem = rw (at_nodes, release_standing b.setup.release)
 
   nodes_stand : all_stand node_stands node_words max_nodes (drop (node_offset 0) all) ≡ true
-  nodes_stand = rw (from_nodes, sym t.nodes_long) (all_standing node_laws b.nodes _ (fits_any b.nodes))
+  nodes_stand = rw (from_nodes, sym t.nodes_long) (all_standing node_laws b.nodes _ t.nodes_fit)
 
   consoles_stand : all_stand console_stands console_words max_consoles (drop (console_offset 0) all) ≡ true
-  consoles_stand = rw (from_consoles, sym t.consoles_long) (all_standing console_laws b.consoles _ t.bytes)
+  consoles_stand = ap (λ n. all_stand console_stands console_words n (drop (console_offset 0) all)) (sym t.consoles_long) ∙ rw from_consoles (all_standing console_laws b.consoles _ t.consoles_fit)
 
   cells_stand : all_stand cell_stands cell_words max_cells (drop (cell_offset 0) all) ≡ true
-  cells_stand = rw (from_cells, sym t.cells_long) (all_standing cell_laws b.cells _ (fits_any b.cells))
+  cells_stand = rw (from_cells, sym t.cells_long) (all_standing cell_laws b.cells _ t.cells_fit)
 
   long : length all ≡ length w
   unfolding encoded
@@ -125,7 +123,7 @@ module _ (w : List ℕ) (b : Board) (h : board_words ≤ length w) (t : Typed b)
 
   board_stands : stands all ≡ true
   unfolding stands parts_stand
-  board_stands = rw (le-leb board_words (length all) (omega (arith, long)), release_stands_lem, nodes_stand, consoles_stand, cells_stand)
+  board_stands = rw (le-leb board_words (length all) (omega (arith, long)), setup_stands_lem, nodes_stand, consoles_stand, cells_stand)
 
   written_read : decoded all ≡ b
   unfolding decoded

@@ -1,12 +1,12 @@
 -- What words that stand for a board give, and that it is the first words that count.
-use Rattle.std.proofs.Common.{ℕ, ◌≤◌, ◌<◌, Bool, true, false, ◌&&◌, List, length, take, drop, leb, ◌≡◌, sym, arith}
+use Rattle.std.proofs.Common.{ℕ, ◌≤◌, ◌<◌, Bool, true, false, ◌&&◌, List, length, take, drop, eqb, leb, ◌≡◌, sym, arith}
 use Rattle.std.proofs.lemmas.List.{get_or-take}
 use Rattle.std.proofs.Math.Bool.{and-false}
-use borrow.Author.Tests.{leb-true, le-leb, lt-leb}
+use borrow.Author.Tests.{eqb-true, leb-true, le-leb, lt-leb}
 use Rattle.parts.proofs.FiniteLaws.{and_left, and_right}
 use Rattle.layout.specs.InWords.{all_stand}
-use Rattle.layout.specs.Layout.{board_words, word, node_words, console_words, cell_words, node_offset, console_offset, cell_offset, node_from, console_from, cell_from, setup_from, board_in}
-use Rattle.layout.specs.Standing.{release_stands, node_stands, console_stands, cell_stands, parts_stand, stands, decoded}
+use Rattle.layout.specs.Layout.{board_words, layout_version, word, node_words, console_words, cell_words, node_offset, console_offset, cell_offset, node_from, console_from, cell_from, setup_from, board_in}
+use Rattle.layout.specs.Standing.{release_stands, setup_stands, node_stands, console_stands, cell_stands, parts_stand, stands, decoded}
 use Rattle.board.specs.Boards.{no_board}
 use Rattle.parts.specs.Limits.{max_nodes, max_consoles, max_cells}
 use Rattle.layout.proofs.Rows.{from_first, stand_first}
@@ -25,9 +25,10 @@ module _ (w : List ℕ) where
   )
 
   parts_first : parts_stand (take board_words w) ≡ parts_stand w
-  unfolding parts_stand
+  unfolding parts_stand setup_stands
   parts_first = rw (
     get_or-take board_words w 2 0 (omega arith),
+    get_or-take board_words w 3 0 (omega arith),
     stand_first node_words max_nodes (node_offset 0) board_words w (omega arith) node_stands,
     stand_first console_words max_consoles (console_offset 0) board_words w (omega arith) console_stands,
     stand_first cell_words max_cells (cell_offset 0) board_words w (omega arith) cell_stands,
@@ -61,24 +62,32 @@ module _ (w : List ℕ) (h : stands w ≡ true) where
   abbrev cells : Bool
   cells = all_stand cell_stands cell_words max_cells (drop (cell_offset 0) w)
 
-  parts : (release_stands (word w 2) && nodes && consoles && cells) ≡ true
+  parts : (setup_stands w && nodes && consoles && cells) ≡ true
   unfolding stands parts_stand
   parts = and_right (leb board_words (length w)) (parts_stand w) h
 
-  before_cells : (release_stands (word w 2) && nodes && consoles) ≡ true
-  before_cells = and_left (release_stands (word w 2) && nodes && consoles) cells parts
+  before_cells : (setup_stands w && nodes && consoles) ≡ true
+  before_cells = and_left (setup_stands w && nodes && consoles) cells parts
 
-  before_consoles : (release_stands (word w 2) && nodes) ≡ true
-  before_consoles = and_left (release_stands (word w 2) && nodes) consoles before_cells
+  before_consoles : (setup_stands w && nodes) ≡ true
+  before_consoles = and_left (setup_stands w && nodes) consoles before_cells
+
+  setup_standing : setup_stands w ≡ true
+  setup_standing = and_left (setup_stands w) nodes before_consoles
 
   pub release_standing : release_stands (word w 2) ≡ true
-  release_standing = and_left (release_stands (word w 2)) nodes before_consoles
+  unfolding setup_stands
+  release_standing = and_left (release_stands (word w 2)) (eqb (word w 3) layout_version) setup_standing
+
+  pub version_standing : word w 3 ≡ layout_version
+  unfolding setup_stands
+  version_standing = eqb-true (word w 3) layout_version (and_right (release_stands (word w 2)) (eqb (word w 3) layout_version) setup_standing)
 
   pub nodes_standing : nodes ≡ true
-  nodes_standing = and_right (release_stands (word w 2)) nodes before_consoles
+  nodes_standing = and_right (setup_stands w) nodes before_consoles
 
   pub consoles_standing : consoles ≡ true
-  consoles_standing = and_right (release_stands (word w 2) && nodes) consoles before_cells
+  consoles_standing = and_right (setup_stands w && nodes) consoles before_cells
 
   pub cells_standing : cells ≡ true
-  cells_standing = and_right (release_stands (word w 2) && nodes && consoles) cells parts
+  cells_standing = and_right (setup_stands w && nodes && consoles) cells parts

@@ -10,7 +10,7 @@ use Rattle.layout.specs.Standing.{stands, decoded}
 use Rattle.layout.proofs.PartsBack.{release_again, node_laws, console_laws, cell_laws}
 use Rattle.layout.specs.Claims.{WrittenBack}
 use Rattle.layout.proofs.Rows.{all_again}
-use Rattle.layout.proofs.StandingLaws.{standing_long, release_standing, nodes_standing, consoles_standing, cells_standing}
+use Rattle.layout.proofs.StandingLaws.{standing_long, release_standing, version_standing, nodes_standing, consoles_standing, cells_standing}
 
 module _ (w : List ℕ) (h : stands w ≡ true) where
   long : board_words ≤ length w
@@ -26,7 +26,8 @@ module _ (w : List ℕ) (h : stands w ≡ true) where
       fields zero l = sym (get_or-take setup_words w 0 0 l)
       fields (suc zero) l = sym (get_or-take setup_words w 1 0 l)
       fields (suc (suc zero)) l = release_again (word w 2) (release_standing w h) ∙ sym (get_or-take setup_words w 2 0 l)
-      fields (suc (suc (suc k))) l = absurd (omega arith)
+      fields (suc (suc (suc zero))) l = sym (version_standing w h) ∙ sym (get_or-take setup_words w 3 0 l)
+      fields (suc (suc (suc (suc k)))) l = absurd (omega arith)
 
   nodes_again : flat_map node_fields (board_in w).nodes ≡ take (max_nodes * node_words) (drop (node_offset 0) w)
   unfolding board_in

@@ -13,10 +13,10 @@ use Rattle.layout.specs.Layout.{node_offset, console_offset, cell_offset, board_
 
 -- numbers that all differ
 abbrev tag : Tag
-tag = record { ts = 21; console = 6 }
+tag = record { ts = 21; console = 6; life = 5 }
 
 abbrev console_in : State → Console
-console_in s = record { state = s; wanted = 31; answered = 9; best = tag; value = 42; alike = true }
+console_in s = record { state = s; wanted = 31; answered = 9; best = tag; value = 42; alike = true; life = 8 }
 
 -- what the definitions give
 unfoldable pub as_written : List (List ℕ)
@@ -39,23 +39,23 @@ as_written =
     ∷ cell_fields (cell_of Ack)
     ∷ []
 
--- what the header says
+-- what the header says; 393221 is 6 × 65536 + 5, console and life in one word
 unfoldable pub in_the_header : List (List ℕ)
 in_the_header =
-    (3 ∷ 23 ∷ 79 ∷ 239 ∷ [])
-    ∷ (3 ∷ 7 ∷ 1 ∷ [])
-    ∷ (3 ∷ 7 ∷ 2 ∷ [])
-    ∷ (0 ∷ 21 ∷ 6 ∷ 42 ∷ [])
-    ∷ (1 ∷ 21 ∷ 6 ∷ 42 ∷ [])
-    ∷ (0 ∷ 31 ∷ 9 ∷ 21 ∷ 6 ∷ 42 ∷ 1 ∷ [])
-    ∷ (1 ∷ 31 ∷ 9 ∷ 21 ∷ 6 ∷ 42 ∷ 1 ∷ [])
-    ∷ (2 ∷ 31 ∷ 9 ∷ 21 ∷ 6 ∷ 42 ∷ 1 ∷ [])
-    ∷ (3 ∷ 31 ∷ 9 ∷ 21 ∷ 6 ∷ 42 ∷ 1 ∷ [])
-    ∷ (4 ∷ 31 ∷ 9 ∷ 21 ∷ 6 ∷ 42 ∷ 1 ∷ [])
-    ∷ (5 ∷ 31 ∷ 9 ∷ 21 ∷ 6 ∷ 42 ∷ 1 ∷ [])
+    (4 ∷ 24 ∷ 88 ∷ 248 ∷ [])
+    ∷ (3 ∷ 7 ∷ 1 ∷ 2 ∷ [])
+    ∷ (3 ∷ 7 ∷ 2 ∷ 2 ∷ [])
+    ∷ (0 ∷ 21 ∷ 393221 ∷ 42 ∷ [])
+    ∷ (1 ∷ 21 ∷ 393221 ∷ 42 ∷ [])
+    ∷ (0 ∷ 31 ∷ 9 ∷ 21 ∷ 393221 ∷ 42 ∷ 1 ∷ 8 ∷ [])
+    ∷ (1 ∷ 31 ∷ 9 ∷ 21 ∷ 393221 ∷ 42 ∷ 1 ∷ 8 ∷ [])
+    ∷ (2 ∷ 31 ∷ 9 ∷ 21 ∷ 393221 ∷ 42 ∷ 1 ∷ 8 ∷ [])
+    ∷ (3 ∷ 31 ∷ 9 ∷ 21 ∷ 393221 ∷ 42 ∷ 1 ∷ 8 ∷ [])
+    ∷ (4 ∷ 31 ∷ 9 ∷ 21 ∷ 393221 ∷ 42 ∷ 1 ∷ 8 ∷ [])
+    ∷ (5 ∷ 31 ∷ 9 ∷ 21 ∷ 393221 ∷ 42 ∷ 1 ∷ 8 ∷ [])
     ∷ (0 ∷ 0 ∷ 0 ∷ 0 ∷ [])
     ∷ (1 ∷ 0 ∷ 0 ∷ 0 ∷ [])
-    ∷ (2 ∷ 21 ∷ 6 ∷ 42 ∷ [])
-    ∷ (3 ∷ 21 ∷ 6 ∷ 42 ∷ [])
+    ∷ (2 ∷ 21 ∷ 393221 ∷ 42 ∷ [])
+    ∷ (3 ∷ 21 ∷ 393221 ∷ 42 ∷ [])
     ∷ (4 ∷ 0 ∷ 0 ∷ 0 ∷ [])
     ∷ []

@@ -1,6 +1,6 @@
--- A board in words of 32 bits: n, m and the release, then so many words for each node, console and cell; how it is read
--- from them, and how it is written into them.
-use Rattle.std.specs.Prelude.{ℕ, zero, suc, ◌+◌, ◌*◌, ◌%◌, ◌<◌, cond, not, List, [], ◌∷◌, ◌++◌, ◌≡◌, eqb, length, get_or, drop}
+-- A board in words of 32 bits: n, m, the release and the layout's version, then so many words for each node, console
+-- and cell; how it is read from them, and how it is written into them.
+use Rattle.std.specs.Prelude.{ℕ, zero, suc, ◌+◌, ◌*◌, ◌/◌, ◌%◌, ◌<◌, cond, not, List, [], ◌∷◌, ◌++◌, ◌≡◌, eqb, length, get_or, drop}
 use Rattle.std.specs.List.{All, flat_map}
 use Rattle.std.proofs.lemmas.List.Edits.{sets}
 use Rattle.parts.specs.declared.Release.{Release}
@@ -26,13 +26,13 @@ use Rattle.layout.specs.InWords.{all_from}
 -- ---- how many words each part has, and where it stands
 
 abbrev pub setup_words : ℕ
-setup_words = 3
+setup_words = 4
 
 abbrev pub node_words : ℕ
 node_words = 4
 
 abbrev pub console_words : ℕ
-console_words = 7
+console_words = 8
 
 abbrev pub cell_words : ℕ
 cell_words = 4
@@ -50,6 +50,14 @@ cell_offset i = console_offset max_consoles + i * cell_words
 abbrev pub board_words : ℕ
 board_words = cell_offset max_cells
 
+-- the version of the layout, a word of each board, so that words of another layout are not taken for a board's
+abbrev pub layout_version : ℕ
+layout_version = 2
+
+-- the numbers below this fit half a word: a tag's console and its life share one
+abbrev pub half_word : ℕ
+half_word = 65536
+
 -- the word at offset i
 abbrev pub word : List ℕ → ℕ → ℕ
 word w i = get_or w i 0
@@ -61,15 +69,15 @@ word w i = get_or w i 0
 unfoldable pub release_of : ℕ → Release
 release_of i = cond (eqb i 2) Two One
 
--- n, m, release
+-- n, m, release; the version is the same on every board
 unfoldable pub setup_from : List ℕ → Setup
 setup_from u = record { n = word u 0; m = word u 1; release = release_of (word u 2) }
 
--- a tag from two words
-abbrev pub tag_of : ℕ → ℕ → Tag
-tag_of t c = record { ts = t; console = c }
+-- a tag from two words, its ts and its owner: the console in the high half, the life in the low one
+unfoldable pub tag_of : ℕ → ℕ → Tag
+tag_of t o = record { ts = t; console = o / half_word; life = o % half_word }
 
--- up, ts, console, value
+-- up, ts, owner, value
 unfoldable pub node_from : List ℕ → Node
 node_from u = record { up = not (eqb (word u 0) 0); tag = tag_of (word u 1) (word u 2); value = word u 3 }
 
@@ -82,9 +90,18 @@ state_of (suc (suc (suc zero))) = Telling Read
 state_of (suc (suc (suc (suc zero)))) = Telling Write
 state_of (suc (suc (suc (suc (suc s))))) = Down
 
--- state, wanted, answered, best ts, best console, value, alike
+-- state, wanted, answered, best ts, best owner, value, alike, life
 unfoldable pub console_from : List ℕ → Console
-console_from u = record { state = state_of (word u 0); wanted = word u 1; answered = word u 2 % 256; best = tag_of (word u 3) (word u 4); value = word u 5; alike = not (eqb (word u 6) 0) }
+console_from u =
+    record {
+      state = state_of (word u 0);
+      wanted = word u 1;
+      answered = word u 2 % 256;
+      best = tag_of (word u 3) (word u 4);
+      value = word u 5;
+      alike = not (eqb (word u 6) 0);
+      life = word u 7 % half_word;
+    }
 
 -- a frame by its number; the last is an ack
 unfoldable pub frame_of : ℕ → Tag → ℕ → Frame
@@ -94,7 +111,7 @@ frame_of (suc (suc zero)) t v = Reply t v
 frame_of (suc (suc (suc zero))) t v = Put t v
 frame_of (suc (suc (suc (suc s)))) t v = Ack
 
--- frame, ts, console, value
+-- frame, ts, owner, value
 unfoldable pub cell_from : List ℕ → Cell
 cell_from u = cell_of (frame_of (word u 0) (tag_of (word u 1) (word u 2)) (word u 3))
 
@@ -115,10 +132,14 @@ release_number One = 1
 release_number Two = 2
 
 unfoldable pub setup_fields : Setup → List ℕ
-setup_fields σ = σ.n ∷ σ.m ∷ release_number σ.release ∷ []
+setup_fields σ = σ.n ∷ σ.m ∷ release_number σ.release ∷ layout_version ∷ []
+
+-- the owner of a tag, its console and its life in one word
+unfoldable pub owner_word : Tag → ℕ
+owner_word t = t.console * half_word + t.life
 
 unfoldable pub node_fields : Node → List ℕ
-node_fields x = one x.up ∷ x.tag.ts ∷ x.tag.console ∷ x.value ∷ []
+node_fields x = one x.up ∷ x.tag.ts ∷ owner_word x.tag ∷ x.value ∷ []
 
 abbrev pub kind_number : Kind → ℕ
 kind_number Read = 0
@@ -131,7 +152,7 @@ state_number (Telling w) = 3 + kind_number w
 state_number Down = 5
 
 unfoldable pub console_fields : Console → List ℕ
-console_fields x = state_number x.state ∷ x.wanted ∷ x.answered ∷ x.best.ts ∷ x.best.console ∷ x.value ∷ one x.alike ∷ []
+console_fields x = state_number x.state ∷ x.wanted ∷ x.answered ∷ x.best.ts ∷ owner_word x.best ∷ x.value ∷ one x.alike ∷ x.life ∷ []
 
 unfoldable pub frame_number : Frame → ℕ
 frame_number Nothing = 0
@@ -155,7 +176,7 @@ frame_value (Put t v) = v
 frame_value Ack = 0
 
 unfoldable pub cell_fields : Cell → List ℕ
-cell_fields x = frame_number x.frame ∷ (frame_tag x.frame).ts ∷ (frame_tag x.frame).console ∷ frame_value x.frame ∷ []
+cell_fields x = frame_number x.frame ∷ (frame_tag x.frame).ts ∷ owner_word (frame_tag x.frame) ∷ frame_value x.frame ∷ []
 
 -- the words of a board
 unfoldable pub board_fields : Board → List ℕ
@@ -167,13 +188,28 @@ encoded w b = sets w 0 (board_fields b)
 
 -- ---- what a board's type says, and reading back rests on
 
--- an answered set is a byte
-abbrev pub Byte : Console → Type 0
-Byte x = x.answered < 256
+-- a tag's console and its life are half a word each
+pub record TagFits (t : Tag) : Type 0 where
+  pub console : t.console < half_word
+  pub life : t.life < half_word
 
--- the lists of a board have their lengths, and each answered set is a byte
+abbrev pub NodeFits : Node → Type 0
+NodeFits x = TagFits x.tag
+
+-- an answered set is a byte, and a life half a word
+pub record ConsoleFits (x : Console) : Type 0 where
+  pub answered : x.answered < 256
+  pub best : TagFits x.best
+  pub life : x.life < half_word
+
+abbrev pub CellFits : Cell → Type 0
+CellFits x = TagFits (frame_tag x.frame)
+
+-- the lists of a board have their lengths, and each part fits its words
 pub record Typed (b : Board) : Type 0 where
   pub nodes_long : length b.nodes ≡ max_nodes
   pub consoles_long : length b.consoles ≡ max_consoles
   pub cells_long : length b.cells ≡ max_cells
-  pub bytes : All Byte b.consoles
+  pub nodes_fit : All NodeFits b.nodes
+  pub consoles_fit : All ConsoleFits b.consoles
+  pub cells_fit : All CellFits b.cells

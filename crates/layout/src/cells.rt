@@ -1,17 +1,20 @@
 // A cell in words: its frame's number, and the frame's tag and value, or zeros.
 ghost use Rattle.std.specs.Prelude.{◌≡◌};
-ghost use Rattle.layout.specs.Layout.{frame_of, frame_number, frame_tag, frame_value, cell_from, cell_fields};
+ghost use Rattle.layout.specs.Layout.{frame_of, frame_number, frame_tag, frame_value, cell_from, cell_fields, CellFits};
 ghost use Rattle.layout.specs.Wide.{cell_wide};
 ghost use Rattle.layout.specs.Standing.{cell_stands};
 
 use crate::CELL_WORDS;
 use crate::in_words::InWords;
+use crate::tags::{owner_word, tag_of};
 use parts::{Cell, Frame, Tag};
 
 // The last number of a frame.
 const LAST_FRAME: u32 = 4;
 
 impl InWords<CELL_WORDS> for Cell {
+    ghost fits = { CellFits };
+
     ghost from = { cell_from };
 
     ghost stands = { cell_stands };
@@ -22,22 +25,22 @@ impl InWords<CELL_WORDS> for Cell {
 
     #[tactic(auto, unfolding(crate::specs::Layout::cell_from))]
     fn from_words(words: &[u32; CELL_WORDS]) -> Cell {
-        let [frame, ts, console, value] = *words;
+        let [frame, ts, owner, value] = *words;
         Cell {
-            frame: frame_of(frame, Tag { ts, console }, value),
+            frame: frame_of(frame, tag_of(ts, owner), value),
         }
     }
 
     #[tactic(auto, unfolding(crate::specs::Standing::cell_stands, crate::specs::Standing::frame_stands))]
     fn stand(words: &[u32; CELL_WORDS]) -> bool {
-        let [frame, ts, console, value] = *words;
-        frame <= LAST_FRAME && (frame == 2 || frame == 3 || (ts == 0 && console == 0 && value == 0))
+        let [frame, ts, owner, value] = *words;
+        frame <= LAST_FRAME && (frame == 2 || frame == 3 || (ts == 0 && owner == 0 && value == 0))
     }
 
     #[tactic(auto, unfolding(crate::specs::Layout::cell_fields))]
     fn to_words(self) -> [u32; CELL_WORDS] {
         let (tag, value) = carried(self.frame);
-        [frame_number(self.frame), tag.ts, tag.console, value]
+        [frame_number(self.frame), tag.ts, owner_word(tag), value]
     }
 }
 

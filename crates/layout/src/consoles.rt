@@ -1,20 +1,23 @@
-// A console in words: state, wanted, answered, ts and console of the best tag, value and mark.
+// A console in words: state, wanted, answered, ts and owner of the best tag, value, mark and life.
 ghost use Rattle.std.specs.Prelude.{◌≡◌};
-ghost use Rattle.layout.specs.Layout.{state_of, state_number, console_from, console_fields, Byte};
+ghost use Rattle.layout.specs.Layout.{state_of, state_number, console_from, console_fields, ConsoleFits};
 ghost use Rattle.layout.specs.Wide.{console_wide};
 ghost use Rattle.layout.specs.Standing.{console_stands};
 
 use crate::CONSOLE_WORDS;
 use crate::in_words::{InWords, LAST_MARK};
-use parts::{Console, Kind, State, Tag};
+use crate::tags::{low_half, owner_word, tag_of};
+use parts::{Console, Kind, State};
 
-// The last number of a state and of a set.
+// The last number of a state, of a set and of half a word.
 const LAST_STATE: u32 = 5;
 
 const LAST_SET: u32 = 255;
 
+const LAST_HALF: u32 = 65535;
+
 impl InWords<CONSOLE_WORDS> for Console {
-    ghost fits = { Byte };
+    ghost fits = { ConsoleFits };
 
     ghost from = { console_from };
 
@@ -26,21 +29,25 @@ impl InWords<CONSOLE_WORDS> for Console {
 
     #[tactic(auto, unfolding(crate::specs::Layout::console_from))]
     fn from_words(words: &[u32; CONSOLE_WORDS]) -> Console {
-        let [state, wanted, answered, ts, console, value, alike] = *words;
+        let [state, wanted, answered, ts, owner, value, alike, life] = *words;
         Console {
             state: state_of(state),
             wanted,
             // The word's lowest byte: std has no From of u32 for u8.
             answered: answered.to_le_bytes()[0],
-            best: Tag { ts, console },
+            best: tag_of(ts, owner),
             value,
             alike: alike != 0,
+            life: low_half(life),
         }
     }
 
     #[tactic(auto, unfolding(crate::specs::Standing::console_stands))]
     fn stand(words: &[u32; CONSOLE_WORDS]) -> bool {
-        words[0] <= LAST_STATE && words[2] <= LAST_SET && words[6] <= LAST_MARK
+        words[0] <= LAST_STATE
+            && words[2] <= LAST_SET
+            && words[6] <= LAST_MARK
+            && words[7] <= LAST_HALF
     }
 
     #[tactic(auto, unfolding(crate::specs::Layout::console_fields))]
@@ -50,9 +57,10 @@ impl InWords<CONSOLE_WORDS> for Console {
             self.wanted,
             u32::from(self.answered),
             self.best.ts,
-            self.best.console,
+            owner_word(self.best),
             self.value,
             u32::from(self.alike),
+            u32::from(self.life),
         ]
     }
 }

@@ -10,7 +10,7 @@ pub(crate) const LAST_MARK: u32 = 1;
 
 pub(crate) trait InWords<const N: usize>: Copy {
     // What the type says of a part, and reading back rests on.
-    ghost fits: { Self → Type 0 } = { λ _. Unit {0} };
+    ghost fits: { Self → Type 0 };
 
     ghost from: { List ℕ → Self };
 

@@ -10,15 +10,19 @@ mod nodes;
 pub mod reading;
 mod setups;
 mod standing;
+mod tags;
 pub mod writing;
 
-// A board is n, m and its release, then its nodes, its consoles and its cells, each kind from an offset on and in so
-// many words each.
-const SETUP_WORDS: usize = 3;
+// The version of the layout, a word of each board.
+pub const LAYOUT: u32 = 2;
+
+// A board is n, m, its release and the version, then its nodes, its consoles and its cells, each kind from an offset on
+// and in so many words each.
+const SETUP_WORDS: usize = 4;
 
 const NODE_WORDS: usize = 4;
 
-const CONSOLE_WORDS: usize = 7;
+const CONSOLE_WORDS: usize = 8;
 
 const CELL_WORDS: usize = 4;
 

@@ -1,13 +1,16 @@
-// A node in words: up, ts, console and value.
-ghost use Rattle.layout.specs.Layout.{node_from, node_fields};
+// A node in words: up, ts and owner of its tag, and value.
+ghost use Rattle.layout.specs.Layout.{node_from, node_fields, NodeFits};
 ghost use Rattle.layout.specs.Wide.{node_wide};
 ghost use Rattle.layout.specs.Standing.{node_stands};
 
 use crate::NODE_WORDS;
 use crate::in_words::{InWords, LAST_MARK};
-use parts::{Node, Tag};
+use crate::tags::{owner_word, tag_of};
+use parts::Node;
 
 impl InWords<NODE_WORDS> for Node {
+    ghost fits = { NodeFits };
+
     ghost from = { node_from };
 
     ghost stands = { node_stands };
@@ -18,10 +21,10 @@ impl InWords<NODE_WORDS> for Node {
 
     #[tactic(auto, unfolding(crate::specs::Layout::node_from))]
     fn from_words(words: &[u32; NODE_WORDS]) -> Node {
-        let [up, ts, console, value] = *words;
+        let [up, ts, owner, value] = *words;
         Node {
             up: up != 0,
-            tag: Tag { ts, console },
+            tag: tag_of(ts, owner),
             value,
         }
     }
@@ -36,7 +39,7 @@ impl InWords<NODE_WORDS> for Node {
         [
             u32::from(self.up),
             self.tag.ts,
-            self.tag.console,
+            owner_word(self.tag),
             self.value,
         ]
     }

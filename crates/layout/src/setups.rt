@@ -1,9 +1,10 @@
-// What a board is made with, in words: n, m and release. A board has one, so no generic function needs it in words.
+// What a board is made with, in words: n, m and release, and the layout's version behind them. A board has one, so no
+// generic function needs it in words.
 ghost use Rattle.std.specs.Prelude.{◌≡◌};
 ghost use Rattle.layout.specs.Layout.{release_of, release_number, setup_from, setup_fields};
-ghost use Rattle.layout.specs.Standing.{release_stands};
+ghost use Rattle.layout.specs.Standing.{release_stands, setup_stands};
 
-use crate::{BOARD_WORDS, SETUP_WORDS};
+use crate::{BOARD_WORDS, LAYOUT, SETUP_WORDS};
 use parts::{Release, Setup};
 
 #[tactic(auto, unfolding(crate::specs::Layout::setup_from))]
@@ -21,11 +22,18 @@ pub(crate) fn setup_from(w: &[u32; BOARD_WORDS]) -> Setup
 pub(crate) fn setup_words(setup: Setup) -> [u32; SETUP_WORDS]
     ensures { result ≡ setup_fields setup }
 {
-    [setup.n, setup.m, release_number(setup.release)]
+    [setup.n, setup.m, release_number(setup.release), LAYOUT]
+}
+
+#[tactic(auto, unfolding(crate::specs::Standing::setup_stands))]
+pub(crate) fn setup_stands(w: &[u32; BOARD_WORDS]) -> bool
+    ensures { result ≡ setup_stands w.now }
+{
+    release_stands(w[2]) && w[3] == LAYOUT
 }
 
 #[tactic(auto, unfolding(crate::specs::Standing::release_stands))]
-pub(crate) fn release_stands(number: u32) -> bool
+fn release_stands(number: u32) -> bool
     ensures { result ≡ release_stands number }
 {
     number == 1 || number == 2

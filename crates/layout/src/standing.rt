@@ -4,7 +4,7 @@ ghost use Rattle.std.specs.List.{list_all};
 ghost use Rattle.layout.specs.Standing.{parts_stand};
 
 use crate::in_words::{InWords, words_of_each};
-use crate::setups::release_stands;
+use crate::setups::setup_stands;
 use crate::{BOARD_WORDS, CELL_WORDS, CELLS_AT, CONSOLE_WORDS, CONSOLES_AT, NODE_WORDS, NODES_AT};
 use parts::{CELLS, CONSOLES, Cell, Console, NODES, Node};
 
@@ -19,12 +19,12 @@ fn all_stand<T: InWords<N>, const N: usize, const K: usize>(each: &[[u32; N]; K]
     )
 }
 
-// Whether the release and each part stands in the words.
+// Whether the setup and each part stands in the words.
 // By && it proves, and a step of whole runs took 1.08 of what it takes by &.
 pub(crate) fn parts_stand(w: &[u32; BOARD_WORDS]) -> bool
     ensures { result ≡ parts_stand w.now }
 {
-    release_stands(w[2])
+    setup_stands(w)
         & all_stand::<Node, NODE_WORDS, NODES>(words_of_each(w, NODES_AT))
         & all_stand::<Console, CONSOLE_WORDS, CONSOLES>(words_of_each(w, CONSOLES_AT))
         & all_stand::<Cell, CELL_WORDS, CELLS>(words_of_each(w, CELLS_AT))

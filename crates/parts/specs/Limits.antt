@@ -16,3 +16,7 @@ max_cells = max_consoles * max_nodes
 -- 'a timestamp ts (0 to 4,000,000,000)'
 abbrev pub max_ts : ℕ
 max_ts = 4000000000
+
+-- 'a life number, 0 to 1,000' (document 02, Paper 7)
+abbrev pub max_life : ℕ
+max_life = 1000

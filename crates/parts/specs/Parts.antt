@@ -20,9 +20,10 @@ use Rattle.parts.specs.Tags.{zero_tag}
 abbrev pub fresh_node : Node
 fresh_node = record { up = true; tag = zero_tag; value = 0 }
 
--- 'idle', with 'an empty set, best tag (0, 0), best value 0 and wanted value 0', and the mark off
+-- 'idle', with 'an empty set, best tag (0, 0), best value 0 and wanted value 0', the mark off, and its life '0 at
+-- first'
 abbrev pub idle_console : Console
-idle_console = record { state = Idle; wanted = 0; answered = 0; best = zero_tag; value = 0; alike = false }
+idle_console = record { state = Idle; wanted = 0; answered = 0; best = zero_tag; value = 0; alike = false; life = 0 }
 
 abbrev pub cell_of : Frame → Cell
 cell_of f = record { frame = f }

@@ -13,6 +13,7 @@ impl Console {
         best: Tag::ZERO,
         value: 0,
         alike: false,
+        life: 0,
     };
 }
 

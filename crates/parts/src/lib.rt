@@ -10,6 +10,9 @@ pub const MAX_CONSOLES: u32 = 8;
 
 pub const MAX_TS: u32 = 4000000000;
 
+// The last life of a console (document 02, Paper 7).
+pub const MAX_LIFE: u16 = 1000;
+
 // The lengths of a board's lists: its nodes, its consoles, and a cell for each pair. Casts: a constant can call no From.
 pub const NODES: usize = MAX_NODES as usize;
 
@@ -24,11 +27,13 @@ pub struct ConsoleId(pub u32);
 #[derive(Clone, Copy)]
 pub struct NodeId(pub u32);
 
-// Document 01's tag: a timestamp, and the number of the console that chose it.
+// Document 01's tag: a timestamp, the number of the console that chose it, and in which of its lives (document 02,
+// Paper 7). It has eight bytes.
 #[derive(Clone, Copy, Debug, PartialEq, Eq)]
 pub struct Tag {
     pub ts: u32,
-    pub console: u32,
+    pub console: u16,
+    pub life: u16,
 }
 
 // Document 01's frame, with 'nothing' for an empty cell. Ask and put go to the node, reply and ack to the console.
@@ -74,8 +79,9 @@ pub enum State {
 }
 
 // Document 01's console: a client of the register. 'answered' has one bit for each node that has answered in this
-// phase; 'alike' is document 02's mark, all alike so far: while it is on, every answer of this asking has carried the same tag;
-// 'best' and 'value' are the greatest tag heard or chosen, and its value.
+// phase; 'alike' is document 02's mark, all alike so far: while it is on, every answer of this asking has carried the
+// same tag; 'best' and 'value' are the greatest tag heard or chosen, and its value; 'life' is how often the console has
+// been restarted.
 #[derive(Clone, Copy)]
 pub struct Console {
     pub state: State,
@@ -84,6 +90,7 @@ pub struct Console {
     pub alike: bool,
     pub best: Tag,
     pub value: u32,
+    pub life: u16,
 }
 
 // The release that a board is made under and keeps (document 02, Paper 4). From release 2 on a read may finish early.

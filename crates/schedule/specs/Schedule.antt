@@ -1,4 +1,4 @@
--- Schedules (document 02, Paper 1): what a program that reads an input of lines writes.
+-- Schedules (document 02, Paper 1; the life: Paper 7): what a program that reads an input of lines writes.
 use Rattle.std.specs.Prelude.{ℕ, ◌+◌, ◌-◌, ◌^◌, min, cond, List, [], ◌∷◌, ◌++◌, Ok, Err}
 use Rattle.decisions.specs.Refusals.{refusal_number}
 use Rattle.decisions.specs.declared.refusals.Refusal.TheVariants.{NotThreeFields, LineTooLong}
@@ -30,8 +30,8 @@ answer_to line b = answer_of (line_of line) b
 unfoldable pub board_after : Board → Answer → Board
 board_after b a = cond (accepted a.outcome) a.board b
 
--- 'Each output line has line number, refusal or 0, outcome, ts, console, value; the last three are 0 unless finished': of any
--- other outcome the tag is (0, 0) and the value 0
+-- 'Each output line has line number, refusal or 0, outcome, ts, console, value; the last three are 0 unless finished',
+-- and 'the tag's life as a seventh field': of any other outcome the tag is (0, 0), in life 0, and the value 0
 unfoldable pub line_output : ℕ → Answer → Output
 line_output n a =
     record {
@@ -42,6 +42,7 @@ line_output n a =
           ∷ (outcome_tag a.outcome).ts
           ∷ (outcome_tag a.outcome).console
           ∷ outcome_value a.outcome
+          ∷ (outcome_tag a.outcome).life
           ∷ [];
     }
 

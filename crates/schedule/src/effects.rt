@@ -33,8 +33,9 @@ pub(crate) fn output_of(number: u64, answer: Answer) -> Output
             answer.refusal_number(),
             answer.outcome.number(),
             tag.ts,
-            tag.console,
+            u32::from(tag.console),
             answer.outcome.value(),
+            u32::from(tag.life),
         ],
     }
 }

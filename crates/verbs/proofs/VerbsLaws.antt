@@ -4,7 +4,7 @@ use mathlib.Core.Path.{◌≡◌}
 use mathlib.Core.Bool.{true}
 use Rattle.board.specs.declared.Board.{Board}
 use Rattle.board.specs.WellFormed.{well_formed}
-use Rattle.board.specs.Runs.{BeginRead, BeginWrite, ConsoleDown, Deliver, NodeDown, NodeUp, step}
+use Rattle.board.specs.Runs.{BeginRead, BeginWrite, ConsoleDown, Deliver, NodeDown, NodeUp, Restart, step}
 use Rattle.guarantee.proofs.KeepsFormed.{fresh_is_well_formed, step_keeps_well_formed}
 use Rattle.verbs.specs.Verbs.{step_of}
 
@@ -18,4 +18,5 @@ verb_keeps_well_formed (suc (suc (suc zero))) x y b h = step_keeps_well_formed b
 verb_keeps_well_formed (suc (suc (suc (suc zero)))) x y b h = step_keeps_well_formed b (NodeDown x) h
 verb_keeps_well_formed (suc (suc (suc (suc (suc zero))))) x y b h = step_keeps_well_formed b (ConsoleDown x) h
 verb_keeps_well_formed (suc (suc (suc (suc (suc (suc zero)))))) x y b h = step_keeps_well_formed b (NodeUp x) h
-verb_keeps_well_formed (suc (suc (suc (suc (suc (suc (suc z))))))) x y b h = h
+verb_keeps_well_formed (suc (suc (suc (suc (suc (suc (suc zero))))))) x y b h = step_keeps_well_formed b (Restart x) h
+verb_keeps_well_formed (suc (suc (suc (suc (suc (suc (suc (suc z)))))))) x y b h = h

@@ -31,7 +31,8 @@ pub fn step_known(b: Board, formed: bool, verb: u32, x: u32, y: u32) -> Answer
         4 => b.node_down_known(formed, NodeId(x)),
         5 => b.console_down_known(formed, ConsoleId(x)),
         6 => b.node_up_known(formed, NodeId(x)),
-        7..=4294967295 => Answer::refused(Refusal::NoSuchVerb, b),
+        7 => b.restart_known(formed, ConsoleId(x)),
+        8..=4294967295 => Answer::refused(Refusal::NoSuchVerb, b),
     }
 }
 

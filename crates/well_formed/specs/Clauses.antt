@@ -1,5 +1,5 @@
--- Well-formedness (document 01, 'A board is well formed if'; of the mark: document 02, Paper 3), part by part: each clause of
--- the sentence is one line.
+-- Well-formedness (document 01, 'A board is well formed if'; of the mark: document 02, Paper 3; of lives: Paper 7),
+-- part by part: each clause of the sentence is one line.
 use Rattle.std.specs.Prelude.{ℕ, Bool, true, cond, not, ◌&&◌, List, leb, ltb, eqb}
 use Rattle.parts.specs.declared.Tag.{Tag}
 use Rattle.parts.specs.declared.Frame.{Frame}
@@ -13,7 +13,7 @@ use Rattle.parts.specs.declared.State.TheVariants.{Idle, Asking, Telling, Down}
 use Rattle.parts.specs.declared.Console.{Console}
 use Rattle.parts.specs.declared.Setup.{Setup}
 use Rattle.parts.specs.Finite.{◌implies◌, every}
-use Rattle.parts.specs.Limits.{max_nodes, max_consoles, max_ts}
+use Rattle.parts.specs.Limits.{max_nodes, max_consoles, max_ts, max_life}
 use Rattle.parts.specs.AnsweredSet.{size, only_below}
 use Rattle.parts.specs.Sizes.{ask_size, tell_size}
 use Rattle.parts.specs.Parts.{is_nothing, is_idle, node_in, console_in, frame_in}
@@ -33,7 +33,12 @@ setup_ok σ = nodes_allowed σ.n && consoles_allowed σ.m
 
 -- tag (0, 0) and value 0
 unfoldable pub is_zero : Tag → ℕ → Bool
-is_zero t v = eqb t.ts 0 && eqb t.console 0 && eqb v 0
+is_zero t v =
+    eqb t.ts 0
+    && eqb t.console 0
+    -- 'A tag with ts 0 has life 0'
+    && eqb t.life 0
+    && eqb v 0
 
 unfoldable pub tag_ok : Setup → Tag → ℕ → Bool
 tag_ok σ t v =
@@ -41,6 +46,8 @@ tag_ok σ t v =
     leb t.ts max_ts
     -- 'and a console number below m'
     && ltb t.console σ.m
+    -- 'no tag .. has a life above 1,000'
+    && leb t.life max_life
     -- 'a tag with ts 0 has console 0 and value 0'
     && (eqb t.ts 0 implies is_zero t v)
 
@@ -99,9 +106,11 @@ unfoldable pub console_ok : Setup → ℕ → Console → Bool
 console_ok σ c x =
     -- of every console: those beyond m are idle
     mark_ok x x.state
+    -- 'no .. console has a life above 1,000'
+    && leb x.life max_life
     && cond (ltb c σ.m) (tag_ok σ x.best x.value && state_ok σ x x.state)
-    -- 'consoles .. beyond .. m are .. idle'
-    (is_idle x.state && rest_ok x)
+    -- 'consoles .. beyond .. m are .. idle', 'and consoles beyond m have life 0'
+    (is_idle x.state && rest_ok x && eqb x.life 0)
 
 unfoldable pub consoles_ok : Setup → List Console → Bool
 consoles_ok σ xs = every max_consoles (λ c. console_ok σ c (console_in xs c))

@@ -5,7 +5,7 @@ ghost use Rattle.well_formed.specs.Clauses.{rest_ok, wanted_ok, wait_ok, state_o
 use crate::every::every;
 use crate::tags::{is_tag_ok, is_zero};
 use parts::answered::{is_only_below, set_size};
-use parts::{CONSOLES, Console, ConsoleId, Kind, MAX_CONSOLES, Setup, State};
+use parts::{CONSOLES, Console, ConsoleId, Kind, MAX_CONSOLES, MAX_LIFE, Setup, State};
 
 #[tactic(auto, unfolding(crate::specs::Clauses::rest_ok))]
 fn is_rest_ok(x: Console) -> bool
@@ -60,13 +60,13 @@ fn is_mark_ok(x: Console, s: State) -> bool
 fn is_console_ok(setup: Setup, c: ConsoleId, x: Console) -> bool
     ensures { result ≡ console_ok setup c.0 x }
 {
-    if !is_mark_ok(x, x.state) {
+    if !is_mark_ok(x, x.state) || x.life > MAX_LIFE {
         return false;
     }
     if c.0 < setup.m {
         is_tag_ok(setup, x.best, x.value) && is_state_ok(setup, x, x.state)
     } else {
-        x.state.is_idle() && is_rest_ok(x)
+        x.state.is_idle() && is_rest_ok(x) && x.life == 0
     }
 }
 

@@ -2,9 +2,9 @@
 ghost use Rattle.std.specs.Prelude.{◌≡◌};
 ghost use Rattle.well_formed.specs.Clauses.{is_zero, tag_ok};
 
-use parts::{MAX_TS, Setup, Tag};
+use parts::{MAX_LIFE, MAX_TS, Setup, Tag};
 
-// Whether this is tag (0, 0) with value 0.
+// Whether this is tag (0, 0), in life 0, with value 0.
 #[tactic(auto, unfolding(crate::specs::Clauses::is_zero))]
 pub(crate) fn is_zero(t: Tag, v: u32) -> bool
     ensures { result ≡ is_zero t v }
@@ -16,5 +16,8 @@ pub(crate) fn is_zero(t: Tag, v: u32) -> bool
 pub(crate) fn is_tag_ok(setup: Setup, t: Tag, v: u32) -> bool
     ensures { result ≡ tag_ok setup t v }
 {
-    t.ts <= MAX_TS && t.console < setup.m && (t.ts != 0 || is_zero(t, v))
+    t.ts <= MAX_TS
+        && u32::from(t.console) < setup.m
+        && t.life <= MAX_LIFE
+        && (t.ts != 0 || is_zero(t, v))
 }

@@ -11,11 +11,6 @@ pub fn is_dead(w: &Words, c: u32) -> bool {
     w[console(c)] == 5
 }
 
-/// Whether some operation can still finish: a console is up. Nodes come back.
-pub fn goes_on(w: &Words) -> bool {
-    (0..w[1]).any(|c| !is_dead(w, c))
-}
-
 /// Mostly a number below n, now and then n itself.
 fn number(n: u32, chance: &mut Chance) -> u32 {
     if chance.one_in(100) {
@@ -29,6 +24,7 @@ fn number(n: u32, chance: &mut Chance) -> u32 {
 pub fn likely_step(w: &Words, chance: &mut Chance) -> Step {
     let (n, m) = (w[0], w[1]);
     let down = (0..n).filter(|k| !is_up(w, *k));
+    let dead = (0..m).filter(|c| is_dead(w, *c));
     match chance.below(1000) {
         0..=2 => return Step::NodeDown(number(n, chance)),
         3..=5 => return Step::ConsoleDown(number(m, chance)),
@@ -40,6 +36,12 @@ pub fn likely_step(w: &Words, chance: &mut Chance) -> Step {
                 return Step::NodeUp(k);
             }
         }
+        50 => return Step::Restart(number(m, chance)),
+        51..=59 => {
+            if let Some(c) = chance.drawn(dead.clone()) {
+                return Step::Restart(c);
+            }
+        }
         _ => {}
     }
     let idle = (0..m).filter(|c| w[console(*c)] == 0);
@@ -49,9 +51,10 @@ pub fn likely_step(w: &Words, chance: &mut Chance) -> Step {
     if let Some((c, k)) = chance.drawn(pairs().filter(|(c, k)| goes(w, *c, *k))) {
         return Step::Deliver(c, k);
     }
-    match chance.drawn(down) {
-        Some(k) => Step::NodeUp(k),
-        None => Step::BeginWrite(number(m, chance), chance.next() as u32),
+    match (chance.drawn(down), chance.drawn(dead)) {
+        (Some(k), _) => Step::NodeUp(k),
+        (None, Some(c)) => Step::Restart(c),
+        (None, None) => Step::BeginWrite(number(m, chance), chance.next() as u32),
     }
 }
 

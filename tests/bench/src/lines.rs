@@ -1,10 +1,10 @@
 //! Times a whole schedule: the program, the same in plain Rust, and the model, each a process that reads the same file.
 use crate::clock;
-use crate::drawing::{goes_on, likely_step};
+use crate::drawing::likely_step;
 use crate::runs::LENGTH;
 use crate::side::{Plain, Side};
 use crate::timing::medians;
-use common::{Chance, Step};
+use common::Chance;
 use hatukeno::{Outcome, Refusal};
 use std::fmt::Write;
 use std::fs::{self, File};
@@ -43,8 +43,7 @@ impl Schedule {
         schedule
     }
 
-    /// A run from a fresh board, up to that many lines, or fewer if no operation can finish any more. In a long run no
-    /// console goes down, since none comes back.
+    /// A run from a fresh board, up to that many lines.
     fn add_run(&mut self, chance: &mut Chance, is_long: bool, to: usize) {
         let (n, m) = if is_long {
             (5, 8)
@@ -53,11 +52,8 @@ impl Schedule {
         };
         let mut board = Plain::made(n, m).expect("an allowed size");
         self.add([0, n, m], Ok(Outcome::Done));
-        while self.lines < to && goes_on(&board.in_words()) {
+        while self.lines < to {
             let step = likely_step(&board.in_words(), chance);
-            if is_long && matches!(step, Step::ConsoleDown(_)) {
-                continue;
-            }
             self.add(step.numbers(), board.step(step).map(|answer| answer.outcome));
         }
     }

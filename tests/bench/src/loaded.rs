@@ -13,7 +13,7 @@ pub type Now = Loaded<0>;
 pub type Again = Loaded<1>;
 pub type Before = Loaded<2>;
 
-const ANSWER_WORDS: usize = 6;
+const ANSWER_WORDS: usize = 7;
 
 /// A call with a lent board, room for its answer, and one number or two.
 type Call1 = unsafe extern "C" fn(*mut u32, usize, *mut u32, usize, u32) -> u32;
@@ -27,6 +27,7 @@ struct Library {
     node_down: Call1,
     console_down: Call1,
     node_up: Call1,
+    restart: Call1,
 }
 
 extern "C" {
@@ -64,6 +65,7 @@ impl Library {
             node_down: one(c"board_node_down"),
             console_down: one(c"board_console_down"),
             node_up: one(c"board_node_up"),
+            restart: one(c"board_restart"),
         }
     }
 }
@@ -115,6 +117,7 @@ impl<const WHICH: usize> Side for Loaded<WHICH> {
                 Step::NodeDown(k) => (calls.node_down)(w, wl, s, sl, k),
                 Step::ConsoleDown(c) => (calls.console_down)(w, wl, s, sl, c),
                 Step::NodeUp(k) => (calls.node_up)(w, wl, s, sl, k),
+                Step::Restart(c) => (calls.restart)(w, wl, s, sl, c),
             }
         })
     }

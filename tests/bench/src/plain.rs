@@ -1,15 +1,20 @@
-//! The rules of document 01 and Papers 2, 3, 4 and 6 in plain Rust, written to be fast: one struct by value, changed in
-//! place. Its numbers are those of the library's words, so that it can be any words, as what is lent to the library
+//! The rules of document 01 and Papers 2, 3, 4, 6 and 7 in plain Rust, written to be fast: one struct by value, changed
+//! in place. Its numbers are those of the library's words, so that it can be any words, as what is lent to the library
 //! can. With CHECKED every step first asks question 1, and so whether the words are a board's at all; without it none
 //! does; all else is the same code.
-use common::words::{Words, CELL, CELLS, CONSOLE, CONSOLES, NODE, NODES, RELEASE};
-use hatukeno::{Answer, Compared, Outcome, Refusal, Release, Tag, BOARD_WORDS};
+use common::words::{Words, CELL, CELLS, CONSOLE, CONSOLES, LIVES, NODE, NODES, RELEASE, VERSION};
+use hatukeno::{Answer, Compared, Outcome, Refusal, Release, Tag, BOARD_WORDS, LAYOUT};
 use std::cmp::Ordering;
 
 const MAX_NODES: usize = 5;
 const MAX_CONSOLES: usize = 8;
 const MAX_TS: u32 = 4_000_000_000;
-const ZERO: Tag = Tag { ts: 0, console: 0 };
+const MAX_LIFE: u32 = 1000;
+pub const ZERO: Tag = Tag {
+    ts: 0,
+    console: 0,
+    life: 0,
+};
 
 /// The states of a console. One that asks will tell by the state two on.
 const IDLE: u32 = 0;
@@ -41,6 +46,7 @@ struct Console {
     best: Tag,
     value: u32,
     alike: u32,
+    life: u32,
 }
 
 #[derive(Clone, Copy, PartialEq)]
@@ -55,6 +61,7 @@ pub struct Board<const CHECKED: bool> {
     n: u32,
     m: u32,
     release: u32,
+    version: u32,
     nodes: [Node; MAX_NODES],
     consoles: [Console; MAX_CONSOLES],
     cells: [Cell; MAX_CONSOLES * MAX_NODES],
@@ -66,7 +73,7 @@ const FRESH: Node = Node {
     value: 0,
 };
 
-const fn resting(state: u32) -> Console {
+const fn resting(state: u32, life: u32) -> Console {
     Console {
         state,
         wanted: 0,
@@ -74,6 +81,7 @@ const fn resting(state: u32) -> Console {
         best: ZERO,
         value: 0,
         alike: 0,
+        life,
     }
 }
 
@@ -86,12 +94,21 @@ const fn holding(frame: u32) -> Cell {
     }
 }
 
+/// The tag in these words.
+pub fn tag_in(w: &[u32]) -> Tag {
+    Tag {
+        ts: w[0],
+        console: w[1] / LIVES,
+        life: w[1] % LIVES,
+    }
+}
+
 fn is_greater(a: Tag, b: Tag) -> bool {
-    (a.ts, a.console) > (b.ts, b.console)
+    (a.ts, a.console, a.life) > (b.ts, b.console, b.life)
 }
 
 fn compared(tag: Tag, best: Tag) -> Compared {
-    match (tag.ts, tag.console).cmp(&(best.ts, best.console)) {
+    match (tag.ts, tag.console, tag.life).cmp(&(best.ts, best.console, best.life)) {
         Ordering::Less => Compared::Lower,
         Ordering::Equal => Compared::Same,
         Ordering::Greater => Compared::Higher,
@@ -108,12 +125,17 @@ fn took_none(outcome: Outcome) -> Result<Answer, Refusal> {
 
 /// Whether tag and value are all 0.
 fn is_zero(t: Tag, value: u32) -> bool {
-    t.ts | t.console | value == 0
+    t.ts | t.console | t.life | value == 0
 }
 
-/// The ts is from 1 to MAX_TS and the console below m, or all is 0.
+/// The ts is from 1 to MAX_TS, the console below m and the life at most MAX_LIFE.
+fn is_above_zero(m: u32, t: Tag) -> bool {
+    (t.ts.wrapping_sub(1) < MAX_TS) & (t.console < m) & (t.life <= MAX_LIFE)
+}
+
+/// So it is, or all is 0.
 fn is_tag_ok(m: u32, t: Tag, value: u32) -> bool {
-    is_zero(t, value) | ((t.ts.wrapping_sub(1) < MAX_TS) & (t.console < m))
+    is_zero(t, value) | is_above_zero(m, t)
 }
 
 fn is_node_ok(m: u32, x: &Node) -> bool {
@@ -132,8 +154,7 @@ fn all<T>(xs: &[T], is: impl Fn(&T) -> bool) -> bool {
 /// Only beside a reply and a put can there be anything but 0.
 fn is_cell_ok(m: u32, x: &Cell) -> bool {
     let has_tag = (x.frame == REPLY) | (x.frame == PUT);
-    let is_tag_good = (x.tag.ts.wrapping_sub(1) < MAX_TS) & (x.tag.console < m);
-    (x.frame <= ACK) & (is_zero(x.tag, x.value) | (has_tag & is_tag_good))
+    (x.frame <= ACK) & (is_zero(x.tag, x.value) | (has_tag & is_above_zero(m, x.tag)))
 }
 
 impl<const CHECKED: bool> Board<CHECKED> {
@@ -155,8 +176,9 @@ impl<const CHECKED: bool> Board<CHECKED> {
                 Release::One => 1,
                 Release::Two => 2,
             },
+            version: LAYOUT,
             nodes: [FRESH; MAX_NODES],
-            consoles: [resting(IDLE); MAX_CONSOLES],
+            consoles: [resting(IDLE, 0); MAX_CONSOLES],
             cells: [holding(NOTHING); MAX_CONSOLES * MAX_NODES],
         })
     }
@@ -238,7 +260,24 @@ impl<const CHECKED: bool> Board<CHECKED> {
         if x.state == DOWN {
             return Err(Refusal(6));
         }
-        *x = resting(DOWN);
+        *x = resting(DOWN, x.life);
+        took_none(Outcome::Done)
+    }
+
+    pub fn restart(&mut self, console: u32) -> Result<Answer, Refusal> {
+        self.ask_question_1()?;
+        if console >= self.m {
+            return Err(Refusal(4));
+        }
+        let x = &mut self.consoles[console as usize];
+        if x.state != DOWN {
+            return Err(Refusal(15));
+        }
+        if x.life == MAX_LIFE {
+            return Err(Refusal(16));
+        }
+        *x = resting(IDLE, x.life + 1);
+        self.send(console, holding(NOTHING));
         took_none(Outcome::Done)
     }
 
@@ -253,7 +292,7 @@ impl<const CHECKED: bool> Board<CHECKED> {
             DOWN => return Err(Refusal(6)),
             _ => return Err(Refusal(7)),
         }
-        *x = resting(asking);
+        *x = resting(asking, x.life);
         x.wanted = wanted;
         self.send(console, holding(ASK));
         took_none(Outcome::Done)
@@ -281,7 +320,7 @@ impl<const CHECKED: bool> Board<CHECKED> {
             return Ok(Answer { outcome, compared });
         }
         if alike && x.state == ASKS_TO_READ && self.release == 2 {
-            *x = resting(IDLE);
+            *x = resting(IDLE, x.life);
             self.cells[at] = holding(NOTHING);
             let outcome = Outcome::Finished { tag: best, value: kept };
             return Ok(Answer { outcome, compared });
@@ -289,7 +328,10 @@ impl<const CHECKED: bool> Board<CHECKED> {
         let (tag, value) = match x.state {
             ASKS_TO_READ => (best, kept),
             _ if best.ts >= MAX_TS => return Err(Refusal(10)),
-            _ => (Tag { ts: best.ts + 1, console }, x.wanted),
+            _ => {
+                let (ts, life) = (best.ts + 1, x.life);
+                (Tag { ts, console, life }, x.wanted)
+            }
         };
         (x.state, x.answered, x.alike) = (x.state + 2, 0, 0);
         (x.best, x.value) = (tag, value);
@@ -312,7 +354,7 @@ impl<const CHECKED: bool> Board<CHECKED> {
             return took_none(Outcome::Heard);
         }
         let (tag, value) = (x.best, x.value);
-        *x = resting(IDLE);
+        *x = resting(IDLE, x.life);
         took_none(Outcome::Finished { tag, value })
     }
 
@@ -341,7 +383,10 @@ impl<const CHECKED: bool> Board<CHECKED> {
     /// Whether these are a board's words, and it is well formed.
     fn is_well_formed(&self) -> bool {
         let (n, m) = (self.n as usize, self.m as usize);
-        if !(1..=MAX_NODES).contains(&n) || !(1..=MAX_CONSOLES).contains(&m) || !(1..=2).contains(&self.release) {
+        if !(1..=MAX_NODES).contains(&n) || !(1..=MAX_CONSOLES).contains(&m) {
+            return false;
+        }
+        if !(1..=2).contains(&self.release) || self.version != LAYOUT {
             return false;
         }
         let (nodes, no_nodes) = self.nodes.split_at(n);
@@ -350,7 +395,7 @@ impl<const CHECKED: bool> Board<CHECKED> {
         all(nodes, |x| is_node_ok(self.m, x))
             && all(no_nodes, |x| *x == FRESH)
             && all(consoles, |x| self.is_console_ok(x))
-            && all(no_consoles, |x| *x == resting(IDLE))
+            && all(no_consoles, |x| *x == resting(IDLE, 0))
             && rows.chunks_exact(MAX_NODES).fold(true, |ok, row| {
                 let (cells, no_cells) = row.split_at(n);
                 ok & all(cells, |x| is_cell_ok(self.m, x)) & all(no_cells, is_nothing)
@@ -359,9 +404,12 @@ impl<const CHECKED: bool> Board<CHECKED> {
     }
 
     fn is_console_ok(&self, x: &Console) -> bool {
+        if x.life > MAX_LIFE {
+            return false;
+        }
         let count = x.answered.count_ones();
         let phase_ok = match x.state {
-            IDLE | DOWN => return *x == resting(x.state),
+            IDLE | DOWN => return *x == resting(x.state, x.life),
             ASKS_TO_READ | ASKS_TO_WRITE => match count {
                 0 => x.alike == 0 && x.best == ZERO && x.value == 0,
                 1 => x.alike == 1,
@@ -376,51 +424,53 @@ impl<const CHECKED: bool> Board<CHECKED> {
 
     /// The board in the library's words.
     pub fn words(&self) -> Words {
+        let owner = |tag: Tag| LIVES * tag.console + tag.life;
         let mut w = [0; BOARD_WORDS];
-        (w[0], w[1], w[RELEASE]) = (self.n, self.m, self.release);
+        (w[0], w[1], w[RELEASE], w[VERSION]) = (self.n, self.m, self.release, self.version);
         for (four, x) in w[NODES..CONSOLES].chunks_exact_mut(NODE).zip(&self.nodes) {
-            four.copy_from_slice(&[x.up, x.tag.ts, x.tag.console, x.value]);
+            four.copy_from_slice(&[x.up, x.tag.ts, owner(x.tag), x.value]);
         }
-        for (seven, x) in w[CONSOLES..CELLS].chunks_exact_mut(CONSOLE).zip(&self.consoles) {
-            seven.copy_from_slice(&[x.state, x.wanted, x.answered, x.best.ts, x.best.console, x.value, x.alike]);
+        for (eight, x) in w[CONSOLES..CELLS].chunks_exact_mut(CONSOLE).zip(&self.consoles) {
+            eight.copy_from_slice(&[x.state, x.wanted, x.answered, x.best.ts, owner(x.best), x.value, x.alike, x.life]);
         }
         for (four, x) in w[CELLS..].chunks_exact_mut(CELL).zip(&self.cells) {
-            four.copy_from_slice(&[x.frame, x.tag.ts, x.tag.console, x.value]);
+            four.copy_from_slice(&[x.frame, x.tag.ts, owner(x.tag), x.value]);
         }
         w
     }
 
     /// These words, whatever they are.
     pub fn from_words(w: &Words) -> Self {
-        let tag = |w: &[u32]| Tag { ts: w[0], console: w[1] };
         Board {
             n: w[0],
             m: w[1],
             release: w[RELEASE],
+            version: w[VERSION],
             nodes: std::array::from_fn(|k| {
                 let four = &w[NODES + NODE * k..];
                 Node {
                     up: four[0],
-                    tag: tag(&four[1..]),
+                    tag: tag_in(&four[1..]),
                     value: four[3],
                 }
             }),
             consoles: std::array::from_fn(|c| {
-                let seven = &w[CONSOLES + CONSOLE * c..];
+                let eight = &w[CONSOLES + CONSOLE * c..];
                 Console {
-                    state: seven[0],
-                    wanted: seven[1],
-                    answered: seven[2],
-                    best: tag(&seven[3..]),
-                    value: seven[5],
-                    alike: seven[6],
+                    state: eight[0],
+                    wanted: eight[1],
+                    answered: eight[2],
+                    best: tag_in(&eight[3..]),
+                    value: eight[5],
+                    alike: eight[6],
+                    life: eight[7],
                 }
             }),
             cells: std::array::from_fn(|i| {
                 let four = &w[CELLS + CELL * i..];
                 Cell {
                     frame: four[0],
-                    tag: tag(&four[1..]),
+                    tag: tag_in(&four[1..]),
                     value: four[3],
                 }
             }),

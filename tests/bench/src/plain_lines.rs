@@ -1,7 +1,7 @@
-//! The program of Papers 1 and 2 in plain Rust over plain.rs: one line at a time in memory that is used again, one
+//! The program of Papers 1, 2 and 7 in plain Rust over plain.rs: one line at a time in memory that is used again, one
 //! board changed in place.
-use crate::plain::Board;
-use hatukeno::{Outcome, Refusal};
+use crate::plain::{Board, ZERO};
+use hatukeno::{Outcome, Refusal, Tag};
 use std::io::{self, BufRead, BufWriter, Write};
 
 const LONGEST: usize = 64;
@@ -15,16 +15,17 @@ pub fn run<const CHECKED: bool>() -> io::Result<()> {
     let mut number = 0u64;
     while input.read_until(b'\n', &mut line)? > 0 {
         number += 1;
-        let (refusal, outcome, ts, console, value) = match answer(&mut board, without_end(&line)) {
-            Err(Refusal(refusal)) => (refusal, 0, 0, 0, 0),
-            Ok(Outcome::Done) => (0, 1, 0, 0, 0),
-            Ok(Outcome::Handed) => (0, 2, 0, 0, 0),
-            Ok(Outcome::Heard) => (0, 3, 0, 0, 0),
-            Ok(Outcome::Turned) => (0, 4, 0, 0, 0),
-            Ok(Outcome::Finished { tag, value }) => (0, 5, tag.ts, tag.console, value),
-            Ok(Outcome::Discarded) => (0, 6, 0, 0, 0),
+        let (refusal, outcome, tag, value) = match answer(&mut board, without_end(&line)) {
+            Err(Refusal(refusal)) => (refusal, 0, ZERO, 0),
+            Ok(Outcome::Done) => (0, 1, ZERO, 0),
+            Ok(Outcome::Handed) => (0, 2, ZERO, 0),
+            Ok(Outcome::Heard) => (0, 3, ZERO, 0),
+            Ok(Outcome::Turned) => (0, 4, ZERO, 0),
+            Ok(Outcome::Finished { tag, value }) => (0, 5, tag, value),
+            Ok(Outcome::Discarded) => (0, 6, ZERO, 0),
         };
-        writeln!(output, "{number},{refusal},{outcome},{ts},{console},{value}")?;
+        let Tag { ts, console, life } = tag;
+        writeln!(output, "{number},{refusal},{outcome},{ts},{console},{value},{life}")?;
         line.clear();
     }
     output.flush()
@@ -55,6 +56,7 @@ fn answer<const CHECKED: bool>(board: &mut Board<CHECKED>, line: &[u8]) -> Resul
         4 => board.node_down(first),
         5 => board.console_down(first),
         6 => board.node_up(first),
+        7 => board.restart(first),
         _ => Err(Refusal(12)),
     };
     answer.map(|answer| answer.outcome)

@@ -1,6 +1,6 @@
 //! Runs by chance and damaged boards that all sides are seen to agree on; what is timed is drawn from among their
 //! steps.
-use crate::drawing::{goes_on, likely_step};
+use crate::drawing::likely_step;
 use crate::loaded::{Before, Now};
 use crate::side::{Answer, Plain, Side, Unasked};
 use common::{Chance, Step, Words};
@@ -9,7 +9,7 @@ use std::process::exit;
 
 /// Steps by chance that all sides agree on.
 pub const STEPS: usize = 200_000;
-/// A run is ended here, or sooner if no operation can finish any more.
+/// The steps of a run.
 pub const LENGTH: usize = 1000;
 /// Boards that are timed for each kind of step.
 pub const BOARDS: usize = 256;
@@ -72,7 +72,7 @@ pub struct Row {
 }
 
 /// The rows, and which steps belong to each. Only a delivery has another outcome than done.
-const ROWS: [(&str, IsOf); 12] = [
+const ROWS: [(&str, IsOf); 13] = [
     ("begin read", |s, a| a.is_ok() && matches!(s, Step::BeginRead(_))),
     ("begin write", |s, a| a.is_ok() && matches!(s, Step::BeginWrite(..))),
     ("deliver", |s, a| a.is_ok() && matches!(s, Step::Deliver(..))),
@@ -84,6 +84,7 @@ const ROWS: [(&str, IsOf); 12] = [
     ("node down", |s, a| a.is_ok() && matches!(s, Step::NodeDown(_))),
     ("node up", |s, a| a.is_ok() && matches!(s, Step::NodeUp(_))),
     ("console down", |s, a| a.is_ok() && matches!(s, Step::ConsoleDown(_))),
+    ("restart", |s, a| a.is_ok() && matches!(s, Step::Restart(_))),
     ("refused", |_, a| a.is_err()),
 ];
 
@@ -129,7 +130,7 @@ pub fn made_run(release: Release, chance: &mut Chance, rows: &mut [Row]) -> Run 
         exit(1);
     }
     let (mut steps, mut early) = (Vec::new(), 0);
-    while steps.len() < LENGTH && goes_on(&words) {
+    while steps.len() < LENGTH {
         let before = words;
         let step = likely_step(&words, chance);
         let answer = both(&mut words, step);
@@ -167,7 +168,26 @@ pub fn damaged(chance: &mut Chance, rows: &[Row]) -> usize {
     for i in 0..DAMAGED {
         let pairs = &rows[i % rows.len()].pairs;
         let (mut words, step) = pairs[chance.below(pairs.len() as u32) as usize];
-        let some = [0, 1, 2, 3, 4, 5, 6, 8, 31, 32, 255, 256, 4_000_000_000, 4_000_000_001, u32::MAX];
+        let some = [
+            0,
+            1,
+            2,
+            3,
+            4,
+            5,
+            6,
+            8,
+            31,
+            32,
+            255,
+            256,
+            1000,
+            1001,
+            65536,
+            4_000_000_000,
+            4_000_000_001,
+            u32::MAX,
+        ];
         let word = chance.below(BOARD_WORDS as u32) as usize;
         words[word] = some[chance.below(some.len() as u32) as usize];
         if both(&mut words, step) == Err(Refusal(1)) {

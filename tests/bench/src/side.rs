@@ -43,6 +43,7 @@ macro_rules! side {
                     Step::NodeDown(k) => self.node_down(k),
                     Step::ConsoleDown(c) => self.console_down(c),
                     Step::NodeUp(k) => self.node_up(k),
+                    Step::Restart(c) => self.restart(c),
                 }
             }
         }

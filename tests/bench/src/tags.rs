@@ -2,6 +2,7 @@
 //! Both stand here in plain Rust.
 use crate::clock;
 use crate::drawing::is_dead;
+use crate::plain::tag_in;
 use common::words::{self, Words};
 use common::{State, Step};
 use hatukeno::Tag;
@@ -15,7 +16,7 @@ pub type IsGreater = fn(Tag, Tag) -> bool;
 
 #[inline(never)]
 pub fn by_number(a: Tag, b: Tag) -> bool {
-    let number = |t: Tag| u64::from(t.ts) * 8 + u64::from(t.console);
+    let number = |t: Tag| (u64::from(t.ts) * 8 + u64::from(t.console)) * 65536 + u64::from(t.life);
     number(a) > number(b)
 }
 
@@ -27,7 +28,10 @@ pub fn by_order(a: Tag, b: Tag) -> bool {
     if a.ts != b.ts {
         return false;
     }
-    a.console > b.console
+    if a.console != b.console {
+        return a.console > b.console;
+    }
+    a.life > b.life
 }
 
 /// Two tags that a delivery compares, and whether it does so for a reply: then also the other way round, if the first
@@ -42,17 +46,14 @@ pub struct Pair {
 /// is taken in and of best.
 pub fn pair(w: &Words, step: Step) -> Option<Pair> {
     let Step::Deliver(c, k) = step else { return None };
-    let tag = |at: usize| Tag {
-        ts: w[at],
-        console: w[at + 1],
-    };
+    let tag = |at: usize| tag_in(&w[at..]);
     let (cell, console) = (words::cell(c, k), words::console(c));
     let is_asking = matches!(State::of_word(w[console]), Some(State::Asking(_)));
     let has_answered = w[console + 2] >> k & 1 == 1;
     match w[cell] {
         2 if is_asking && !has_answered => Some(Pair {
             tag: tag(cell + 1),
-            with: tag(console + 3),
+            with: tag(words::best(c)),
             is_reply: true,
         }),
         3 if !is_dead(w, c) => Some(Pair {

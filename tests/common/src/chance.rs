@@ -38,16 +38,17 @@ impl Chance {
         }
     }
 
-    /// Mostly deliveries. With crashes a node is up some three quarters of the time, by three node ups drawn for each
-    /// node down, whether it is up or not. Consoles that are down do not come back, so long runs need some without
-    /// crashes.
+    /// Mostly deliveries. With crashes a node or a console is up some three quarters of the time, by three node ups
+    /// drawn for each node down and three restarts for each console down, whether it is up or not. So a run of any
+    /// length may have crashes throughout; without them more operations finish.
     pub fn step(&mut self, n: u32, m: u32, crashes: bool) -> Step {
-        match if crashes { self.below(1037) } else { 45 + self.below(992) } {
+        match if crashes { self.below(1072) } else { 80 + self.below(992) } {
             0..=9 => Step::NodeDown(self.number(n)),
             10..=39 => Step::NodeUp(self.number(n)),
-            40..=44 => Step::ConsoleDown(self.number(m)),
-            45..=137 => Step::BeginRead(self.number(m)),
-            138..=237 => Step::BeginWrite(self.number(m), self.value()),
+            40..=49 => Step::ConsoleDown(self.number(m)),
+            50..=79 => Step::Restart(self.number(m)),
+            80..=172 => Step::BeginRead(self.number(m)),
+            173..=272 => Step::BeginWrite(self.number(m), self.value()),
             _ => Step::Deliver(self.number(m), self.number(n)),
         }
     }

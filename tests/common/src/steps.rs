@@ -8,6 +8,7 @@ pub enum Step {
     NodeDown(u32),
     ConsoleDown(u32),
     NodeUp(u32),
+    Restart(u32),
 }
 
 impl Step {
@@ -20,6 +21,7 @@ impl Step {
             Step::NodeDown(k) => [4, k, 0],
             Step::ConsoleDown(c) => [5, c, 0],
             Step::NodeUp(k) => [6, k, 0],
+            Step::Restart(c) => [7, c, 0],
         }
     }
 }
@@ -34,6 +36,7 @@ impl From<Step> for hatukeno::Step {
             Step::NodeDown(node) => hatukeno::Step::NodeDown { node },
             Step::ConsoleDown(console) => hatukeno::Step::ConsoleDown { console },
             Step::NodeUp(node) => hatukeno::Step::NodeUp { node },
+            Step::Restart(console) => hatukeno::Step::Restart { console },
         }
     }
 }

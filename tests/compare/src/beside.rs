@@ -40,6 +40,7 @@ pub fn put(board: &mut Board, step: Step) -> Said {
         Step::NodeDown(k) => board.node_down(k),
         Step::ConsoleDown(c) => board.console_down(c),
         Step::NodeUp(k) => board.node_up(k),
+        Step::Restart(c) => board.restart(c),
     }
 }
 
@@ -51,7 +52,7 @@ fn same(a: hatukeno::Outcome, b: Outcome) -> bool {
         | (hatukeno::Outcome::Turned, Outcome::Turned)
         | (hatukeno::Outcome::Discarded, Outcome::Discarded) => true,
         (hatukeno::Outcome::Finished { tag, value }, Outcome::Finished(t, v)) => {
-            (u64::from(tag.ts), u64::from(tag.console)) == t && value == v
+            (u64::from(tag.ts), u64::from(tag.console), u64::from(tag.life)) == t && value == v
         }
         _ => false,
     }

@@ -63,7 +63,7 @@ const FAR_NUMBERS: [&str; 12] = [
 ];
 
 /// Whole lines that are not three such fields, or have no known verb.
-const ODD_LINES: [&str; 24] = [
+const ODD_LINES: [&str; 26] = [
     "",
     ",",
     ",,",
@@ -83,15 +83,17 @@ const ODD_LINES: [&str; 24] = [
     "0;1;1",
     "6,0",
     "6,x,0",
-    "7,0,0",
-    "7,x,0",
     "7,0",
+    "7,x,0",
+    "8,0,0",
+    "8,x,0",
+    "8,0",
     "4294967295,0,\"",
     "12,,",
 ];
 
-/// Whole lines that have three fields, or nearly: sizes, quotes, a field with no use, node ups.
-const EDGE_LINES: [&str; 11] = [
+/// Whole lines that have three fields, or nearly: sizes, quotes, a field with no use, node ups, restarts.
+const EDGE_LINES: [&str; 14] = [
     "0,0,1",
     "0,6,9",
     "0,5,9",
@@ -103,6 +105,9 @@ const EDGE_LINES: [&str; 11] = [
     "6,0,0",
     "6,0,x",
     "6,2,0",
+    "7,0,0",
+    "7,0,x",
+    "7,3,0",
 ];
 
 /// Lines put while node 1 of 2 is down: the first four bring it back, the others are refused.
@@ -123,7 +128,26 @@ const BACK_LINES: [&str; 17] = [
     "6,4294967295,0",
     "6,4294967297,0",
     "4294967302,1,0",
+    "8,1,0",
+];
+
+/// Lines put while console 1 of 3 is down: the first four restart it, the others are refused.
+const RESTART_LINES: [&str; 15] = [
     "7,1,0",
+    "7,1,4294967295",
+    "\"7\",\"1\",\"0\"",
+    "007,01,00",
+    "7,1,x",
+    "7,1,",
+    "7,1",
+    "7,1,0,0",
+    "7,1,4294967296",
+    "7,0,0",
+    "7,3,0",
+    "7,8,0",
+    "7,4294967297,0",
+    "4294967303,1,0",
+    "8,1,0",
 ];
 
 /// Ends of lines, and what is no end: nothing, a CR alone, and an LF with its CR at the wrong side.
@@ -162,6 +186,7 @@ pub fn edges() -> Vec<Vec<u8>> {
         schedules.push([&vec![b'x'; length], &b"\n0,3,2\r\n2,1,7\r\r\n3,1,0\r\n"[..]].concat());
     }
     schedules.extend(returns());
+    schedules.extend(restarts());
     schedules
 }
 
@@ -175,6 +200,27 @@ fn returns() -> Vec<Vec<u8>> {
         .collect();
     let by_node_0 = "3,0,0\n".repeat(4);
     schedules.push(format!("0,1,1\n2,0,7\n{by_node_0}4,0,0\n6,0,0\n1,0,0\n{by_node_0}").into_bytes());
+    schedules
+}
+
+/// Console 1 of 3 is down and its frames are in their cells; the lines after the odd one show whether it is up again
+/// and they are gone, and the life of what it writes. In the next schedule two writes have tags that differ in the life
+/// alone, and a read returns the second. In the last one a console comes to the last life, and writes with it.
+fn restarts() -> Vec<Vec<u8>> {
+    let by_node_0 = |c: u32| format!("3,{c},0\n").repeat(4);
+    let write = format!("2,1,7\n{}", by_node_0(1));
+    let mut schedules: Vec<Vec<u8>> = RESTART_LINES
+        .iter()
+        .map(|line| format!("0,1,3\n1,1,0\n5,1,0\n{line}\n3,1,0\n7,1,0\n7,1,0\n3,1,0\n{write}"))
+        .map(String::into_bytes)
+        .collect();
+    let landed = "2,0,7\n3,0,0\n3,0,0\n3,0,2\n3,0,2\n3,0,0\n";
+    let again = "2,0,8\n3,0,1\n3,0,1\n3,0,2\n3,0,2\n3,0,0\n3,0,0\n3,0,1\n3,0,1\n";
+    let read = "1,1,0\n3,1,0\n3,1,0\n3,1,2\n3,1,2\n3,1,0\n3,1,0\n3,1,2\n3,1,2\n";
+    schedules.push(format!("0,3,2\n{landed}5,0,0\n7,0,0\n{again}{read}").into_bytes());
+    let all_lives = "5,1,0\n7,1,0\n".repeat(1000);
+    let read = format!("1,0,0\n{}", by_node_0(0));
+    schedules.push(format!("0,1,2\n{all_lives}{write}7,1,0\n5,1,0\n7,1,0\n{read}0,1,2\n5,1,0\n7,1,0\n{write}").into_bytes());
     schedules
 }
 
@@ -226,8 +272,7 @@ impl Drawing<'_> {
         if self.chance.one_in(self.damaged) {
             return self.damaged_line();
         }
-        // With crashes the consoles go down one after the other, and none of them comes back.
-        if self.chance.one_in(if self.crashes { 200 } else { 500 }) {
+        if self.chance.one_in(500) {
             return self.fresh();
         }
         let numbers = self.step();
@@ -295,9 +340,9 @@ impl Drawing<'_> {
             3 => fields[place] = self.drawn(&FAR_NUMBERS).to_string(),
             // Beyond 32 bits, and the good number if only the low 32 bits were kept.
             4 => fields[place] = (u64::from(numbers[place]) + (u64::from(1 + self.chance.below(5)) << 32)).to_string(),
-            5 => fields[0] = (7 + self.chance.below(4)).to_string(),
+            5 => fields[0] = (8 + self.chance.below(4)).to_string(),
             6 => {
-                fields[0] = self.drawn(&["6", "7", "8", "10", "255", "256", "4294967295"]).to_string();
+                fields[0] = self.drawn(&["6", "7", "8", "9", "10", "255", "256", "4294967295"]).to_string();
                 fields[1 + place % 2] = self.drawn(&ODD_FIELDS).to_string();
             }
             7 => return self.drawn(&ODD_LINES).as_bytes().to_vec(),

@@ -2,6 +2,7 @@
 //! the model: it changes what the model is given or what it answers.
 mod early;
 mod lines;
+mod restarts;
 mod rules;
 mod standing;
 mod steps;
@@ -14,6 +15,7 @@ use crate::schedule::{self, Line};
 use crate::words::{self, Words};
 use early::*;
 use lines::*;
+pub use restarts::*;
 use rules::*;
 use standing::*;
 pub use steps::*;
@@ -42,6 +44,8 @@ enum Wraps {
     Found(fn(Line) -> Option<Line>),
     /// A line that is put to a board.
     Line(fn(&mut Model, Line) -> schedule::Answer),
+    /// The fields of a line of the output.
+    Output(fn([u64; 7]) -> Vec<u64>),
 }
 
 macro_rules! faults {
@@ -123,6 +127,54 @@ faults! {
     Step(withdrawn_handed),
     Step(withdrawn_stays),
     Step(withdrawn_at_down),
+    // Of Paper 7: what a restart is refused with and what it does.
+    Step(restart_keeps_life),
+    Step(restart_life_1),
+    Step(restart_leaves_cells),
+    Step(restart_leaves_replies),
+    Step(restart_empties_all),
+    Step(restart_of_idle),
+    Step(restart_of_waiting),
+    Step(waiting_refused_7),
+    Step(restart_before_number),
+    Step(life_before_up),
+    Step(last_life_999),
+    Step(last_life_1001),
+    Step(last_life_again),
+    // Which life a tag and a console have, how lives are compared, and what of them is well formed.
+    Step(write_life_0),
+    Step(write_life_of_best),
+    Step(read_own_life),
+    Step(finished_own_life),
+    Step(down_clears_life),
+    Step(down_raises_life),
+    Step(finish_clears_life),
+    Step(early_clears_life),
+    Step(begin_clears_life),
+    Step(turn_clears_life),
+    Step(put_without_life),
+    Step(reply_without_life),
+    Step(put_life_first),
+    Step(reply_life_first),
+    Step(put_life_before_ts),
+    Step(reply_life_before_ts),
+    Board(tag_life_any),
+    Board(tag_life_999),
+    Board(zero_with_life),
+    Board(tag_beyond_console),
+    Board(console_life_any),
+    Board(console_life_999),
+    Board(beyond_with_life),
+    Rules(apart_without_life),
+    List(list_keeps_lives),
+    // In lines and the output.
+    Line(restart_unknown),
+    Line(eight_restarts),
+    Line(fresh_keeps_lives),
+    Line(life_of_console),
+    Output(life_unwritten),
+    Output(life_before_value),
+    Output(life_written_0),
     // In which words are a board's: numbers that stand for nothing, and what is beside a frame.
     Words(state_else_down),
     Words(frame_else_ack),
@@ -130,6 +182,13 @@ faults! {
     Words(up_else_on),
     Words(mark_else_on),
     Words(release_else_one),
+    Words(version_unread),
+    Words(version_cut),
+    Words(life_cut),
+    Words(life_capped),
+    Words(node_life_unread),
+    Words(best_life_unread),
+    Words(frame_life_unread),
     Words(beside_nothing_unread),
     Words(beside_ask_unread),
     Words(beside_ack_unread),
@@ -158,7 +217,7 @@ impl Faulty {
 
     /// Whether the fault is to be found by schedules; the others are by steps of the library.
     pub fn is_of_lines(self) -> bool {
-        matches!(self.wraps(), Some(Wraps::Found(_) | Wraps::Line(_)))
+        matches!(self.wraps(), Some(Wraps::Found(_) | Wraps::Line(_) | Wraps::Output(_)))
     }
 
     pub fn step(self, board: &Model, step: Step) -> (Answer, Model) {
@@ -215,6 +274,14 @@ impl Faulty {
             Some(Wraps::Found(change)) => schedule::run(lines.filter_map(change), schedule::answer),
             Some(Wraps::Line(answer)) => schedule::run(lines, answer),
             _ => schedule::run(lines, schedule::answer),
+        }
+    }
+
+    /// The output of these answers.
+    pub fn written(self, answers: &[schedule::Answer]) -> Vec<u8> {
+        match self.wraps() {
+            Some(Wraps::Output(fields)) => schedule::written(answers, fields),
+            _ => schedule::written(answers, |fields| fields.to_vec()),
         }
     }
 }

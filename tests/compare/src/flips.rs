@@ -67,8 +67,9 @@ impl Flips {
 }
 
 /// Every kind of step, with the console and the node that this word is about, if it is about any, and with a frame of
-/// the board that was flipped, if it has one there; and a delivery of any frame.
-fn steps_about(word: usize, board: &Model, chance: &mut Chance) -> [Step; 7] {
+/// the board that was flipped, if it has one there; a delivery of any frame; and a restart of the console as it is and
+/// once it is down.
+fn steps_about(word: usize, board: &Model, chance: &mut Chance) -> [Step; 9] {
     let (console, node) = about(word);
     let frames = board.cells.keys().copied();
     let of_word = |(c, k): &(u32, u32)| console.is_none_or(|d| d == *c) && node.is_none_or(|j| j == *k);
@@ -81,12 +82,14 @@ fn steps_about(word: usize, board: &Model, chance: &mut Chance) -> [Step; 7] {
         Step::Deliver(d, j),
         Step::NodeDown(k),
         Step::NodeUp(k),
+        Step::Restart(c),
         Step::ConsoleDown(c),
+        Step::Restart(c),
         Step::BeginWrite(c, 7),
     ]
 }
 
-/// The console and the node of this word; a cell has both, and n, m and the release have none.
+/// The console and the node of this word; a cell has both, and n, m, the release and the version have none.
 fn about(word: usize) -> (Option<u32>, Option<u32>) {
     if word < NODES {
         (None, None)

@@ -27,7 +27,8 @@ impl Late {
     pub fn run(&mut self, n: u32, m: u32, release: Release, highest: u32, chance: &mut Chance, faulty: Faulty) -> Agreed {
         let (_, mut model) = made(n, m, release);
         for node in model.nodes.values_mut().take(n as usize) {
-            node.tag = (u64::from(highest - chance.below(3)), u64::from(chance.below(m)));
+            let (ts, console, life) = (highest - chance.below(3), chance.below(m), chance.below(2));
+            node.tag = (ts.into(), console.into(), life.into());
             node.value = chance.value();
         }
         let first = Board::from_words(words::write(&model));
@@ -54,7 +55,7 @@ impl Late {
     fn add(&mut self, Answer { outcome, compared }: Answer) {
         match outcome {
             Err(10) => self.refused += 1,
-            Ok(Outcome::Finished((MAX_TS, _), _)) if compared != Compared::None => self.early += 1,
+            Ok(Outcome::Finished((MAX_TS, ..), _)) if compared != Compared::None => self.early += 1,
             _ => {}
         }
     }

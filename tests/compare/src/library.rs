@@ -35,6 +35,8 @@ pub fn compare(amount: Amount, seed: u64, faulty: Faulty) -> Agreed<Seen> {
     for (n, m) in sizes() {
         for release in RELEASES {
             seen.late.run(n, m, release, MAX_TS as u32, &mut chance, faulty)?;
+            seen.reboots.run(n, m, release, &mut chance, faulty)?;
+            seen.lives.run(n, m, release, &mut chance, faulty)?;
         }
         seen.marks.draw(n, m, &mut chance, faulty)?;
         seen.releases.draw(n, m, &mut chance, faulty)?;

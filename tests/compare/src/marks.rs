@@ -154,6 +154,7 @@ fn try_board(words: Words, c: u32, k: u32, is_good: bool, faulty: Faulty) -> Agr
         Step::NodeDown(k),
         Step::ConsoleDown(c),
         Step::NodeUp(k),
+        Step::Restart(c),
     ];
     for step in steps {
         let said = put(&mut Board::from_words(words), step);

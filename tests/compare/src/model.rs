@@ -1,13 +1,17 @@
-//! The board as document 01 and Papers 2, 3, 4 and 6 say it, in sets and maps: what it is, when it is well formed, the
-//! questions put before each step, and the steps. Nothing here is shared with the library.
+//! The board as document 01 and Papers 2, 3, 4, 6 and 7 say it, in sets and maps: what it is, when it is well formed,
+//! the questions put before each step, and the steps. Nothing here is shared with the library.
 pub use common::{Kind, State, Step};
 use std::cmp::Ordering;
 use std::collections::{BTreeMap, BTreeSet};
 
 pub const MAX_TS: u64 = 4_000_000_000;
 
-/// A tag: ts, then console number; so the order of tuples is the order of tags.
-pub type Tag = (u64, u64);
+pub const MAX_LIFE: u64 = 1000;
+
+/// A tag: ts, then console number, then life (Paper 7); so the order of tuples is the order of tags.
+pub type Tag = (u64, u64, u64);
+
+pub const ZERO: Tag = (0, 0, 0);
 
 #[derive(Clone, Copy, Debug, PartialEq, Eq)]
 pub enum Frame {
@@ -35,7 +39,7 @@ impl Node {
     pub fn fresh() -> Node {
         Node {
             up: true,
-            tag: (0, 0),
+            tag: ZERO,
             value: 0,
         }
     }
@@ -57,18 +61,21 @@ pub struct Console {
     pub value: u32,
     /// Paper 3's mark: all alike so far.
     pub alike: bool,
+    /// Paper 7's life, 0 at first.
+    pub life: u64,
 }
 
 impl Console {
-    /// Nothing answered, best (0, 0) and 0, wanted value 0, mark off.
-    pub fn at_rest(state: State) -> Console {
+    /// Nothing answered, best (0, 0) and 0, wanted value 0, mark off. The life is no part of an operation.
+    pub fn at_rest(state: State, life: u64) -> Console {
         Console {
             state,
             wanted: 0,
             answered: BTreeSet::new(),
-            best: (0, 0),
+            best: ZERO,
             value: 0,
             alike: false,
+            life,
         }
     }
 
@@ -185,7 +192,7 @@ impl Model {
             m,
             release,
             nodes: (0..5).map(|k| (k, Node::fresh())).collect(),
-            consoles: (0..8).map(|c| (c, Console::at_rest(State::Idle))).collect(),
+            consoles: (0..8).map(|c| (c, Console::at_rest(State::Idle, 0))).collect(),
             cells: BTreeMap::new(),
         })
     }
@@ -203,10 +210,11 @@ impl Model {
             && self.cells.iter().all(|((c, k), frame)| self.is_cell_good(*c, *k, frame))
     }
 
-    /// Every tag has ts at most 4,000,000,000 and a console number below m; a tag with ts 0 has console 0 and value 0.
+    /// Every tag has ts at most 4,000,000,000, a console number below m and a life at most 1,000; a tag with ts 0 has
+    /// console 0, life 0 and value 0.
     fn is_tag_good(&self, tag: Tag, value: u32) -> bool {
-        let (ts, console) = tag;
-        ts <= MAX_TS && console < u64::from(self.m) && (ts != 0 || (console == 0 && value == 0))
+        let (ts, console, life) = tag;
+        ts <= MAX_TS && console < u64::from(self.m) && life <= MAX_LIFE && (ts != 0 || (tag == ZERO && value == 0))
     }
 
     /// Nodes beyond n are up with tag (0, 0) and value 0.
@@ -223,14 +231,15 @@ impl Model {
         is_tag_good && c < self.m && k < self.n
     }
 
-    /// Consoles beyond m are idle.
+    /// No console has a life above 1,000. Consoles beyond m are idle and have life 0.
     fn is_console_good(&self, c: u32, x: &Console) -> bool {
         let is_state_good = match x.state {
-            State::Idle | State::Down => *x == Console::at_rest(x.state),
+            State::Idle | State::Down => *x == Console::at_rest(x.state, x.life),
             State::Asking(kind) => self.is_waiting_good(kind, x) && is_asking_good(x),
             State::Telling(kind) => self.is_waiting_good(kind, x) && !x.alike,
         };
-        is_state_good && self.is_tag_good(x.best, x.value) && (c < self.m || x.state == State::Idle)
+        let is_there = c < self.m || (x.state == State::Idle && x.life == 0);
+        is_state_good && is_there && self.is_tag_good(x.best, x.value) && x.life <= MAX_LIFE
     }
 
     /// A waiting console's answered set names only nodes below n and has fewer than q members; a read's wanted value is
@@ -244,7 +253,7 @@ impl Model {
 /// on at exactly one answer of asking.
 fn is_asking_good(x: &Console) -> bool {
     match x.answered.len() {
-        0 => x.best == (0, 0) && x.value == 0 && !x.alike,
+        0 => x.best == ZERO && x.value == 0 && !x.alike,
         1 => x.alike,
         _ => true,
     }
@@ -261,6 +270,8 @@ impl Model {
         let is_console_idle = |c| question(7, self.consoles[&c].state == State::Idle);
         let is_node_up = |k| question(9, self.nodes[&k].up);
         let is_node_down = |k| question(14, !self.nodes[&k].up);
+        let is_console_down = |c| question(15, self.consoles[&c].state == State::Down);
+        let has_life_left = |c| question(16, self.consoles[&c].life < MAX_LIFE);
         match step {
             Step::BeginRead(c) | Step::BeginWrite(c, _) => {
                 has_console(c)?;
@@ -291,6 +302,11 @@ impl Model {
             Step::NodeUp(k) => {
                 has_node(k)?;
                 is_node_down(k)
+            }
+            Step::Restart(c) => {
+                has_console(c)?;
+                is_console_down(c)?;
+                has_life_left(c)
             }
         }
     }
@@ -344,6 +360,7 @@ impl Model {
             Step::NodeDown(k) => self.set_node_up(k, false),
             Step::ConsoleDown(c) => self.console_down(c),
             Step::NodeUp(k) => self.set_node_up(k, true),
+            Step::Restart(c) => self.restart(c),
         };
         Answer::plain(Ok(outcome))
     }
@@ -351,7 +368,7 @@ impl Model {
     /// The console becomes asking, with nothing answered and best (0, 0), 0. All n of its cells become ask, whatever
     /// they held.
     fn begin(&mut self, c: u32, kind: Kind, wanted: u32) -> Outcome {
-        let asking = Console::at_rest(State::Asking(kind));
+        let asking = Console::at_rest(State::Asking(kind), self.consoles[&c].life);
         self.consoles.insert(c, Console { wanted, ..asking });
         self.send_all(c, Frame::Ask);
         Outcome::Done
@@ -363,9 +380,18 @@ impl Model {
         Outcome::Done
     }
 
-    /// Down for good, its operation gone, its cells as they are.
+    /// Its operation is gone, its cells are as they are, and it keeps its life.
     fn console_down(&mut self, c: u32) -> Outcome {
-        self.consoles.insert(c, Console::at_rest(State::Down));
+        let life = self.consoles[&c].life;
+        self.consoles.insert(c, Console::at_rest(State::Down, life));
+        Outcome::Done
+    }
+
+    /// Restart makes a down console idle with its life one higher and empties its cells.
+    pub fn restart(&mut self, c: u32) -> Outcome {
+        let life = self.consoles[&c].life;
+        self.consoles.insert(c, Console::at_rest(State::Idle, life + 1));
+        self.cells.retain(|(d, _), _| *d != c);
         Outcome::Done
     }
 
@@ -423,13 +449,13 @@ impl Model {
         }
     }
 
-    /// The console becomes telling: a read keeps best; a write takes the tag (best ts + 1, own number) and the wanted
-    /// value as its best. The answered set empties, the kind and wanted value stay, and all n cells become put with
-    /// that tag and value.
+    /// The console becomes telling: a read keeps best; a write takes the tag (best ts + 1, own number), with the
+    /// current life, and the wanted value as its best. The answered set empties, the kind and wanted value stay, and
+    /// all n cells become put with that tag and value.
     fn turn(&mut self, c: u32) -> Outcome {
         let x = self.consoles.get_mut(&c).expect("question 4 was asked");
         if x.state == State::Asking(Kind::Write) {
-            (x.best, x.value) = ((x.best.0 + 1, u64::from(c)), x.wanted);
+            (x.best, x.value) = ((x.best.0 + 1, u64::from(c), x.life), x.wanted);
             x.state = State::Telling(Kind::Write);
         } else {
             x.state = State::Telling(Kind::Read);
@@ -456,10 +482,10 @@ impl Model {
         }
     }
 
-    /// The console becomes idle and its own fields clear; finished with the best tag and value it had. Its other cells
-    /// keep their frames.
+    /// The console becomes idle and its own fields clear, but for its life; finished with the best tag and value it
+    /// had. Its other cells keep their frames.
     pub fn finish(&mut self, c: u32) -> Outcome {
-        let idle = Console::at_rest(State::Idle);
+        let idle = Console::at_rest(State::Idle, self.consoles[&c].life);
         let x = self.consoles.insert(c, idle).expect("question 4 was asked");
         Outcome::Finished(x.best, x.value)
     }

@@ -49,8 +49,8 @@ impl Load {
     }
 }
 
-/// Some frame in flight, if there is one. Since no node is down, each can be delivered.
-fn some_delivery(board: &Model, chance: &mut Chance) -> Option<Step> {
+/// Some frame in flight, if there is one. While no node is down, each can be delivered.
+pub fn some_delivery(board: &Model, chance: &mut Chance) -> Option<Step> {
     let frames = board.cells.len() as u32;
     let (c, k) = board.cells.keys().nth(chance.below(frames.max(1)) as usize)?;
     Some(Step::Deliver(*c, *k))

@@ -64,7 +64,7 @@ fn try_board(mut words: Words, c: u32, k: u32, faulty: Faulty) -> Agreed {
     for number in NUMBERS {
         words[RELEASE] = number;
         let mut lent = Lent::of(words, faulty);
-        lent.each(&[Step::NodeDown(k), Step::NodeUp(k), Step::ConsoleDown(c)])?;
+        lent.each(&[Step::NodeDown(k), Step::NodeUp(k), Step::ConsoleDown(c), Step::Restart(c)])?;
         let answer = lent.both(Step::Deliver(c, k))?;
         let is_right = match (number, answer.outcome) {
             (1, outcome) => outcome == Ok(Outcome::Turned),

@@ -1,11 +1,12 @@
 //! Demand 3's three rules, held to a run of the library by its steps and their answers alone: the progress rule with
 //! Paper 2's majority after each accepted step, the delivery bound at each delivery, the freshness rule at each finish.
 //! They are the same under both releases; an early finish (Paper 4) is held to half the bound besides, since it takes
-//! one phase. And what the runs show, counted: finishes, node ups, how replies compared and what they did to the mark,
-//! and frames that were withdrawn.
+//! one phase. Beside them stands what lives are for (Paper 7): no two writes choose the same tag; a write's is read off
+//! its console's best at the turn. And what the runs show, counted: finishes, node ups, how replies compared and what
+//! they did to the mark, frames that were withdrawn, restarts, and tags that differ in the life alone.
 use crate::beside::{differ, Agreed};
-use crate::model::{Answer, Compared, Frame, Kind, Outcome, Step, Tag};
-use crate::words::{mark, read};
+use crate::model::{Answer, Compared, Frame, Kind, Outcome, State, Step, Tag};
+use crate::words::{best, cell, console, mark, node, read, tag};
 use hatukeno::{Board, Refusal};
 use std::collections::{BTreeMap, BTreeSet};
 
@@ -60,9 +61,53 @@ pub struct Counts {
     pub puts_withdrawn: u64,
     pub withdrawn_from_down: u64,
     pub kept_from_landing: u64,
+    /// Accepted restarts (Paper 7), those of them that emptied a cell, and restarts that were refused with 15, of an
+    /// idle console and of a waiting one.
+    pub restarts: u64,
+    pub emptied: u64,
+    pub idle_restarts: u64,
+    pub waiting_restarts: u64,
+    /// Replies taken in whose tag differs from the best in the life alone, and puts that were handed on whose tag
+    /// differs so from the node's.
+    pub replies_by_life: u64,
+    pub puts_by_life: u64,
+}
+
+/// Whether these tags have one ts and one console, and two lives.
+fn differ_in_life(a: Tag, b: Tag) -> bool {
+    (a.0, a.1) == (b.0, b.1) && a.2 != b.2
 }
 
 impl Counts {
+    /// The tag in the cell, and that at this place, which it is compared with.
+    fn is_by_life(c: u32, k: u32, with: usize, from: &Board) -> u64 {
+        let words = from.words();
+        u64::from(differ_in_life(tag(&words[cell(c, k) + 1..]), tag(&words[with..])))
+    }
+
+    /// A handed frame of this console and node. Of a put the tag is compared.
+    fn add_handed(&mut self, c: u32, k: u32, from: &Board) {
+        const PUT: u32 = 3;
+        if from.words()[cell(c, k)] == PUT {
+            self.puts_by_life += Counts::is_by_life(c, k, node(k) + 1, from);
+        }
+    }
+
+    /// An accepted restart of this console.
+    fn add_restart(&mut self, c: u32, from: &Board) {
+        let holds_frame = |k: u32| from.words()[cell(c, k)] != 0;
+        self.restarts += 1;
+        self.emptied += u64::from((0..5).any(holds_frame));
+    }
+
+    /// A restart that was refused because the console is up.
+    fn add_up(&mut self, c: u32, from: &Board) {
+        match State::of_word(from.words()[console(c)]) {
+            Some(State::Idle) => self.idle_restarts += 1,
+            _ => self.waiting_restarts += 1,
+        }
+    }
+
     /// A discarded delivery of this console and node. Of asks and puts it is those of down consoles that are discarded.
     fn add_discarded(&mut self, c: u32, k: u32, from: &Board) {
         let from = read(from.words()).expect("a delivery was accepted on it");
@@ -80,8 +125,10 @@ impl Counts {
 
     /// A delivery of this console and node, from one board to the next.
     fn add_delivery(&mut self, c: u32, k: u32, answer: Answer, from: &Board, to: &Board) {
-        if answer.outcome == Ok(Outcome::Discarded) {
-            self.add_discarded(c, k, from);
+        match answer.outcome {
+            Ok(Outcome::Discarded) => self.add_discarded(c, k, from),
+            Ok(Outcome::Handed) => self.add_handed(c, k, from),
+            _ => {}
         }
         match answer.compared {
             Compared::None => return,
@@ -89,6 +136,7 @@ impl Counts {
             Compared::Same => self.same += 1,
             Compared::Higher => self.higher += 1,
         }
+        self.replies_by_life += Counts::is_by_life(c, k, best(c), from);
         let is_on = |board: &Board| board.words()[mark(c)] == 1;
         match (is_on(from), is_on(to), answer.outcome) {
             (false, true, _) => self.set += 1,
@@ -112,6 +160,8 @@ pub struct Rules {
     /// Freshness: whether an operation of this kind must have a higher tag than those finished before it, or else one
     /// no lower.
     pub rises: fn(Kind) -> bool,
+    /// What of the tags of two writes must differ.
+    pub apart: fn(Tag) -> Tag,
 }
 
 impl Rules {
@@ -124,6 +174,7 @@ impl Rules {
             deliveries: 2 * one_phase,
             early_deliveries: one_phase,
             rises: |kind| kind == Kind::Write,
+            apart: |tag| tag,
         }
     }
 }
@@ -135,12 +186,14 @@ struct Open {
     before: Option<Tag>,
 }
 
-/// A run so far: which machines are down, the open operation of each console that has one, and the highest final tag.
+/// A run so far: which machines are down, the open operation of each console that has one, the highest final tag, and
+/// the tags that writes have chosen.
 pub struct Run {
     rules: Rules,
     down: BTreeSet<u32>,
     open: BTreeMap<u32, Open>,
     highest: Option<Tag>,
+    chosen: BTreeSet<Tag>,
 }
 
 impl Run {
@@ -150,6 +203,7 @@ impl Run {
             down: BTreeSet::new(),
             open: BTreeMap::new(),
             highest: None,
+            chosen: BTreeSet::new(),
         }
     }
 
@@ -161,6 +215,7 @@ impl Run {
         match (step, answer.outcome) {
             (_, Ok(_)) => self.accept(step, answer, from, to, counts)?,
             (Step::NodeDown(_), Err(9)) | (Step::NodeUp(_), Err(14)) => counts.twice += 1,
+            (Step::Restart(c), Err(15)) => counts.add_up(c, from),
             _ => {}
         }
         Ok(())
@@ -173,7 +228,7 @@ impl Run {
             Step::ConsoleDown(c) => {
                 self.open.remove(&c);
             }
-            Step::Deliver(c, _) => self.deliver(c, answer, counts)?,
+            Step::Deliver(c, _) => self.deliver(c, answer, to, counts)?,
             Step::NodeDown(k) => {
                 self.down.insert(k);
             }
@@ -183,6 +238,7 @@ impl Run {
                 counts.waited_for += u64::from(is_waited_for(k, from));
                 counts.again += self.stuck(from).filter(|c| self.has_frame(*c, to)).count() as u64;
             }
+            Step::Restart(c) => counts.add_restart(c, from),
         }
         self.hold_progress(to)
     }
@@ -192,13 +248,16 @@ impl Run {
         self.open.insert(c, Open { kind, taken: 0, before });
     }
 
-    fn deliver(&mut self, c: u32, answer: Answer, counts: &mut Counts) -> Agreed {
+    fn deliver(&mut self, c: u32, answer: Answer, to: &Board, counts: &mut Counts) -> Agreed {
         let Some(operation) = self.open.get_mut(&c) else {
             return Ok(());
         };
         operation.taken += 1;
         let (taken, kind) = (operation.taken, operation.kind);
         self.hold_bound(taken, self.rules.deliveries)?;
+        if (kind, answer.outcome) == (Kind::Write, Ok(Outcome::Turned)) {
+            self.choose(tag(&to.words()[best(c)..]))?;
+        }
         let Ok(Outcome::Finished(tag, _)) = answer.outcome else {
             return Ok(());
         };
@@ -217,6 +276,14 @@ impl Run {
         if taken > most {
             let n = self.rules.n;
             return differ(&[format!("n = {n}: an operation took {taken} deliveries, more than {most}")]);
+        }
+        Ok(())
+    }
+
+    /// A write has chosen its tag.
+    fn choose(&mut self, tag: Tag) -> Agreed {
+        if !self.chosen.insert((self.rules.apart)(tag)) {
+            return differ(&[format!("two writes have chosen the tag {tag:?}")]);
         }
         Ok(())
     }

@@ -78,10 +78,15 @@ pub fn fresh(n: u32, m: u32) -> Agreed {
     Ok(())
 }
 
-/// The fresh in a list, on a board of each release. If it is refused, it leaves the board as it was.
+/// The fresh in a list, on a board of each release whose consoles have been restarted. If it is refused, it leaves the
+/// board as it was.
 pub fn fresh_in_list(n: u32, m: u32, faulty: Faulty) -> Agreed {
     for release in RELEASES {
-        let (board, model) = made(3, 2, release);
+        let (_, mut model) = made(3, 2, release);
+        for (life, console) in (1..).zip(model.consoles.values_mut().take(2)) {
+            console.life = life;
+        }
+        let board = Board::from_words(words::write(&model));
         let next = faulty.fresh_in_list(Some(&model), n, m);
         let outcome = next.as_ref().map(|_| Outcome::Done).map_err(|refusal| *refusal);
         let last = Board::from_words(words::write(&next.unwrap_or(model)));

@@ -1,7 +1,7 @@
-//! The program of Papers 1 and 2 as they say it: the bytes of a whole input, and the bytes of the whole output. Nothing
-//! here is shared with the program. The lines are document 01's ('Lines that programs read and write'), the steps those
-//! of model.rs on boards of release 1 (Paper 4).
-use crate::model::{Model, Outcome, Step};
+//! The program of Papers 1, 2 and 7 as they say it: the bytes of a whole input, and the bytes of the whole output.
+//! Nothing here is shared with the program. The lines are document 01's ('Lines that programs read and write'), the
+//! steps those of model.rs on boards of release 1 (Paper 4).
+use crate::model::{Model, Outcome, Step, ZERO};
 use std::io::Write;
 
 /// The most bytes of a line, its end not counted.
@@ -110,6 +110,7 @@ fn take(board: &mut Model, [verb, first, second]: [u32; 3]) -> Answer {
         4 => Step::NodeDown(first),
         5 => Step::ConsoleDown(first),
         6 => Step::NodeUp(first),
+        7 => Step::Restart(first),
         _ => return Err(UNKNOWN_VERB),
     };
     let (answer, next) = board.step(step);
@@ -117,21 +118,28 @@ fn take(board: &mut Model, [verb, first, second]: [u32; 3]) -> Answer {
     answer.outcome
 }
 
-/// The output: for each line its number from 1, refusal or 0, outcome, and ts, console and value if it finished.
-pub fn written(answers: &[Answer]) -> Vec<u8> {
+/// The fields of an output line: its number from 1, refusal or 0, outcome, and ts, console, value and life if it
+/// finished.
+fn written_fields(line: u64, answer: &Answer) -> [u64; 7] {
+    let refusal = answer.err().unwrap_or(0);
+    let (outcome, (ts, console, life), value) = match *answer {
+        Err(_) => (0, ZERO, 0),
+        Ok(Outcome::Done) => (1, ZERO, 0),
+        Ok(Outcome::Handed) => (2, ZERO, 0),
+        Ok(Outcome::Heard) => (3, ZERO, 0),
+        Ok(Outcome::Turned) => (4, ZERO, 0),
+        Ok(Outcome::Finished(tag, value)) => (5, tag, value),
+        Ok(Outcome::Discarded) => (6, ZERO, 0),
+    };
+    [line, refusal.into(), outcome, ts, console, value.into(), life]
+}
+
+/// The output, with what these are of the fields of each line.
+pub fn written(answers: &[Answer], fields: fn([u64; 7]) -> Vec<u64>) -> Vec<u8> {
     let mut output = Vec::new();
-    for (line, answer) in (1u64..).zip(answers) {
-        let refusal = answer.err().unwrap_or(0);
-        let (outcome, (ts, console), value) = match *answer {
-            Err(_) => (0, (0, 0), 0),
-            Ok(Outcome::Done) => (1, (0, 0), 0),
-            Ok(Outcome::Handed) => (2, (0, 0), 0),
-            Ok(Outcome::Heard) => (3, (0, 0), 0),
-            Ok(Outcome::Turned) => (4, (0, 0), 0),
-            Ok(Outcome::Finished(tag, value)) => (5, tag, value),
-            Ok(Outcome::Discarded) => (6, (0, 0), 0),
-        };
-        writeln!(output, "{line},{refusal},{outcome},{ts},{console},{value}").expect("memory takes all that is written");
+    for (line, answer) in (1..).zip(answers) {
+        let fields: Vec<String> = fields(written_fields(line, answer)).iter().map(u64::to_string).collect();
+        writeln!(output, "{}", fields.join(",")).expect("memory takes all that is written");
     }
     output
 }

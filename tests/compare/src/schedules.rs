@@ -3,7 +3,7 @@ use crate::beside::{differ, Agreed};
 use crate::drawing::{edges, Drawing};
 use crate::faults::Faulty;
 use crate::model::Outcome;
-use crate::schedule::{lines, written, Answer};
+use crate::schedule::{lines, Answer};
 use common::Chance;
 use std::collections::BTreeMap;
 use std::io::{self, Read, Write};
@@ -25,7 +25,7 @@ const MANY: u64 = 70_000;
 pub fn answer(faulty: Faulty) -> io::Result<()> {
     let mut input = Vec::new();
     io::stdin().read_to_end(&mut input)?;
-    io::stdout().write_all(&written(&faulty.answers(&input)))
+    io::stdout().write_all(&faulty.written(&faulty.answers(&input)))
 }
 
 /// How many lines there were, by their answers.
@@ -117,16 +117,17 @@ impl Drawn<'_> {
 
     /// Puts the schedule to the program and to the model.
     fn put(&mut self, schedule: &[u8]) -> Agreed {
-        let expected = self.faulty.answers(schedule);
+        let answers = self.faulty.answers(schedule);
+        let expected = self.faulty.written(&answers);
         let pieces = pieces(schedule.len(), &mut self.chance);
         let (output, status) = run(self.rack, schedule, &pieces).unwrap_or_else(|error| {
             eprintln!("compare: {} cannot be run: {error}", self.rack.display());
             exit(2);
         });
-        if output != written(&expected) || !status.success() {
-            return differ(&difference(schedule, &output, &written(&expected), self.seed, status));
+        if output != expected || !status.success() {
+            return differ(&difference(schedule, &output, &expected, self.seed, status));
         }
-        self.counts.add(&expected);
+        self.counts.add(&answers);
         Ok(())
     }
 }

@@ -3,8 +3,10 @@ use crate::beside::{differ, Agreed};
 use crate::damaged::Damaged;
 use crate::flips::Flips;
 use crate::late::Late;
+use crate::lives::Lives;
 use crate::marks::Marks;
 use crate::reads::Reads;
+use crate::reboots::Reboots;
 use crate::releases::Releases;
 use crate::rules::Counts;
 
@@ -19,6 +21,8 @@ pub struct Seen {
     /// For each size, under each release.
     pub counts: Vec<[Counts; 2]>,
     pub late: Late,
+    pub reboots: Reboots,
+    pub lives: Lives,
     pub marks: Marks,
     pub releases: Releases,
     pub damaged: Damaged,
@@ -35,7 +39,7 @@ impl Seen {
             self.steps
         );
         println!(
-            "and 7 steps on each of {ill} damaged boards, {by_one} of them by one word, and of {well} that were well formed all the same"
+            "and 8 steps on each of {ill} damaged boards, {by_one} of them by one word, and of {well} that were well formed all the same"
         );
         println!(
             "and runs beside the last timestamp, {} of their deliveries refused with 10, {} early finishes with the last timestamp",
@@ -45,6 +49,8 @@ impl Seen {
             "and runs beside the timestamps at which ts × 8 would wrap to 0 in 32 bits, {} puts and {} replies of which would then go otherwise",
             self.late.puts_wrapped, self.late.replies_wrapped
         );
+        self.reboots.print();
+        self.lives.print();
         self.marks.print();
         self.releases.print();
         self.flips.print();
@@ -80,6 +86,12 @@ impl Seen {
         let [asks, puts, from_down, _, landing] = self.withdrawn();
         println!(
             "{asks} asks and {puts} puts of down consoles were withdrawn, {from_down} of them from a node that was down; {landing} of the puts would have landed, at a node that was up"
+        );
+        let [emptied, not_emptied, idle, waiting] = self.restarts();
+        println!(
+            "{} restarts were accepted, {emptied} of them with frames in the console's cells\n  {} were refused with 15, {idle} of an idle console and {waiting} of a waiting one",
+            emptied + not_emptied,
+            idle + waiting
         );
     }
 
@@ -120,6 +132,16 @@ impl Seen {
         ])
     }
 
+    /// Restarts that emptied cells and that did not, and restarts of idle and of waiting consoles.
+    fn restarts(&self) -> [u64; 4] {
+        self.sums([
+            |t| t.emptied,
+            |t| t.restarts - t.emptied,
+            |t| t.idle_restarts,
+            |t| t.waiting_restarts,
+        ])
+    }
+
     /// Whether all was seen that is to be compared.
     pub fn hold(&self) -> Agreed {
         let Late { refused, early, .. } = self.late;
@@ -130,6 +152,12 @@ impl Seen {
             "replies"
         } else if self.steps > 0 && self.withdrawn().contains(&0) {
             "withdrawn frames"
+        } else if self.steps > 0 && self.restarts().contains(&0) {
+            "restarts"
+        } else if !self.reboots.shows_all() {
+            "tags that differ in the life alone"
+        } else if !self.lives.shows_all() {
+            "the last life"
         } else if !self.marks.shows_all() {
             "the mark"
         } else if !self.flips.shows_all() {

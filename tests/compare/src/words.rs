@@ -1,11 +1,12 @@
 //! The model's board in the library's words, and back.
 use crate::model::{Console, Frame, Model, Node, Release, State, Tag};
 pub use common::words::*;
-use hatukeno::BOARD_WORDS;
+use hatukeno::{BOARD_WORDS, LAYOUT};
 use std::collections::BTreeSet;
 
-fn tag(w: &[u32]) -> Tag {
-    (u64::from(w[0]), u64::from(w[1]))
+/// The tag in these words, its ts and its owner.
+pub fn tag(w: &[u32]) -> Tag {
+    (u64::from(w[0]), u64::from(w[1] / LIVES), u64::from(w[1] % LIVES))
 }
 
 /// 0 is no and 1 is yes.
@@ -47,6 +48,7 @@ fn console_in(w: &[u32]) -> Option<Console> {
         best: tag(&w[3..]),
         value: w[5],
         alike: flag(w[6])?,
+        life: (w[7] < LIVES).then_some(u64::from(w[7]))?,
     })
 }
 
@@ -65,6 +67,9 @@ fn cell_in(w: &[u32]) -> Option<Option<Frame>> {
 /// The board that is written so, whether it is well formed or not; none if no board is. It follows the comment of
 /// bindings/c/board.h.
 pub fn read(w: &Words) -> Option<Model> {
+    if w[VERSION] != LAYOUT {
+        return None;
+    }
     let nodes: Option<Vec<Node>> = w[NODES..CONSOLES].chunks(NODE).map(node_in).collect();
     let consoles: Option<Vec<Console>> = w[CONSOLES..CELLS].chunks(CONSOLE).map(console_in).collect();
     let cells: Option<Vec<Option<Frame>>> = w[CELLS..].chunks(CELL).map(cell_in).collect();
@@ -81,7 +86,8 @@ pub fn read(w: &Words) -> Option<Model> {
 
 pub fn write(b: &Model) -> Words {
     let ts = |t: Tag| u32::try_from(t.0).expect("a ts has 32 bits");
-    let of = |t: Tag| u32::try_from(t.1).expect("a console number has 32 bits");
+    let half = |number: u64| u32::from(u16::try_from(number).expect("console numbers and lives have 16 bits in words"));
+    let owner = |t: Tag| LIVES * half(t.1) + half(t.2);
     let mut w = [0; BOARD_WORDS];
     w[0] = b.n;
     w[1] = b.m;
@@ -89,21 +95,22 @@ pub fn write(b: &Model) -> Words {
         Release::One => 1,
         Release::Two => 2,
     };
+    w[VERSION] = LAYOUT;
     for (k, x) in &b.nodes {
         let p = node(*k);
-        w[p..p + NODE].copy_from_slice(&[u32::from(x.up), ts(x.tag), of(x.tag), x.value]);
+        w[p..p + NODE].copy_from_slice(&[u32::from(x.up), ts(x.tag), owner(x.tag), x.value]);
     }
     for (c, x) in &b.consoles {
         let answered = x.answered.iter().map(|k| 2u32.pow(*k)).sum();
-        let (p, state, alike) = (console(*c), x.state.word(), u32::from(x.alike));
-        w[p..p + CONSOLE].copy_from_slice(&[state, x.wanted, answered, ts(x.best), of(x.best), x.value, alike]);
+        let (p, state, alike, life) = (console(*c), x.state.word(), u32::from(x.alike), half(x.life));
+        w[p..p + CONSOLE].copy_from_slice(&[state, x.wanted, answered, ts(x.best), owner(x.best), x.value, alike, life]);
     }
     for ((c, k), f) in &b.cells {
         let p = cell(*c, *k);
         let four = match f {
             Frame::Ask => [1, 0, 0, 0],
-            Frame::Reply(t, v) => [2, ts(*t), of(*t), *v],
-            Frame::Put(t, v) => [3, ts(*t), of(*t), *v],
+            Frame::Reply(t, v) => [2, ts(*t), owner(*t), *v],
+            Frame::Put(t, v) => [3, ts(*t), owner(*t), *v],
             Frame::Ack => [4, 0, 0, 0],
         };
         w[p..p + CELL].copy_from_slice(&four);

@@ -6,7 +6,8 @@ use mathlib.Core.Logic.{inl, inr, ◌≢◌, ◌⊎◌}
 use mathlib.Core.Path.{refl, ◌≡◌, ◌∙◌}
 use native.Mathlib.Omega.{arith}
 use borrow.Author.Tests.{ltb-true, ltb-false, eqb-true, eqb-false, le-leb}
-use lib.Dec.{ltb, eqb}
+use lib.Dec.{ltb, leb, eqb}
+use Rattle.parts.specs.Limits.{max_life}
 use Rattle.parts.specs.Parts.{fresh_node, idle_console, is_idle, is_nothing}
 use Rattle.parts.specs.declared.Console.{Console}
 use Rattle.parts.specs.declared.Frame.{Frame}
@@ -47,10 +48,11 @@ pub record Holds (K : TagKind) (σ : Setup) (b : Board) : Type 0 where
   pub best : (c : ℕ) → c < σ.m → K (console_at b c).best (console_at b c).value
   pub frame : (c k : ℕ) → c < σ.m → k < σ.n → FrameHas K (frame_at b c k)
 
--- a console in state s passes the tests of its state and of its mark
+-- a console in state s passes the tests of its state, of its mark and of its life
 pub record Passes (σ : Setup) (s : State) (x : Console) : Type 0 where
   pub state : state_ok σ x s ≡ true
   pub mark : mark_ok x s ≡ true
+  pub life : x.life ≤ max_life
 
 pub record BoardOk (K : TagKind) (σ : Setup) (b : Board) : Type 0 where
   pub shape : Shape σ b
@@ -221,8 +223,10 @@ module _ {σ : Setup} (b : Board) (h : BoardOk (Good σ) σ b) where
   console_passes c l = go (ltb c σ.m) refl
     where
       go : (x : Bool) → ltb c σ.m ≡ x
-          → (mark_ok (console_at b c) (console_at b c).state && cond x (tag_ok σ (console_at b c).best (console_at b c).value && state_ok σ (console_at b c) (console_at b c).state) (is_idle (console_at b c).state && rest_ok (console_at b c))) ≡ true
-      go true e = both (h.console_in_lem c (omega (arith, ltb-true))).mark (both (h.tagged.best c (omega (arith, ltb-true))) (h.console_in_lem c (omega (arith, ltb-true))).state)
+          → (mark_ok (console_at b c) (console_at b c).state && leb (console_at b c).life max_life && cond x (tag_ok σ (console_at b c).best (console_at b c).value && state_ok σ (console_at b c) (console_at b c).state) (is_idle (console_at b c).state && rest_ok (console_at b c) && eqb (console_at b c).life 0)) ≡ true
+      go true e =
+          let p = h.console_in_lem c (omega (arith, ltb-true)) in
+          both (both p.mark (le-leb (console_at b c).life max_life p.life)) (both (h.tagged.best c (omega (arith, ltb-true))) p.state)
       go false e = rw (h.console_out c (omega (arith, ltb-false)))
 
   cell_passes : (c k : ℕ) → c < 8 → k < 5 → cell_ok σ c k (frame_at b c k) ≡ true

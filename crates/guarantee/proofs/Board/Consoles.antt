@@ -5,11 +5,11 @@ use mathlib.Core.Bool.{Bool, true, false, cond, ◌&&◌}
 use mathlib.Core.Path.{refl, sym, subst, ◌≡◌}
 use native.Mathlib.Omega.{arith}
 use borrow.Author.Tests.{ltb-true, eqb-true, eq-eqb, ne_eqb, lt-ltb, le-leb}
-use lib.Dec.{ltb, leb, eqb}
+use lib.Dec.{ltb, eqb}
 use Rattle.parts.proofs.FiniteLaws.{and_left, and_right, implied}
 use Rattle.parts.specs.AnsweredSet.{insert, member, only_below, size}
 use Rattle.parts.specs.Finite.{◌implies◌, count}
-use Rattle.parts.specs.Limits.{max_ts}
+use Rattle.parts.specs.Limits.{max_life, max_ts}
 use Rattle.parts.specs.Parts.{is_asking, is_telling, is_waiting, to_telling, writes}
 use Rattle.parts.specs.Sizes.{ask_size, tell_size}
 use Rattle.parts.specs.Tags.{greater, zero_tag}
@@ -21,7 +21,7 @@ use Rattle.parts.specs.declared.State.{State}
 use Rattle.parts.specs.declared.State.TheVariants.{Asking, Down, Idle, Telling}
 use Rattle.parts.specs.declared.Tag.{Tag}
 use Rattle.well_formed.specs.Clauses.{is_zero, mark_ok, rest_ok, state_ok, tag_ok, wait_ok, wanted_ok}
-use Rattle.decisions.specs.Changes.{acked, asks, hears, next_tag, rests, still_alike, taken, tells}
+use Rattle.decisions.specs.Changes.{acked, asks, hears, next_tag, restarted, rests, still_alike, taken, tells}
 use Rattle.guarantee.proofs.Laws.Sets.{insert_first, insert_small, insert_some, power_pos, size_empty, small_32}
 use Rattle.guarantee.proofs.Laws.Tags.{Small, greater_false, greater_true, key}
 use Rattle.guarantee.proofs.Laws.Sizes.{Allowed, ask_pos, size_for, tell_pos}
@@ -30,20 +30,13 @@ use Rattle.guarantee.proofs.Board.Boards.{Good, Passes, TagKind}
 
 -- ---- good tags
 
-pub tag_console : (σ : Setup) (t : Tag) (v : ℕ) → Good σ t v → t.console < σ.m
-unfolding tag_ok
-tag_console σ t v h = ltb-true t.console σ.m (and_right (leb t.ts max_ts) _ (and_left (leb t.ts max_ts && ltb t.console σ.m) _ h))
-
-pub tag_small : {σ : Setup} → Allowed σ → (t : Tag) (v : ℕ) → Good σ t v → Small t
-tag_small {σ} al t v h = record { console_8 = omega (arith, tag_console σ t v h, al.m_8) }
-
 pub zero_good : (σ : Setup) → Allowed σ → Good σ zero_tag 0
 unfolding tag_ok is_zero
-zero_good σ al = rw (lt-ltb 0 σ.m al.m_1, le-leb 0 max_ts (omega arith))
+zero_good σ al = rw (lt-ltb 0 σ.m al.m_1, le-leb 0 max_ts (omega arith), le-leb 0 max_life (omega arith))
 
-pub next_good : (σ : Setup) (c : ℕ) (x : Console) (v : ℕ) → c < σ.m → x.best.ts < max_ts → Good σ (next_tag c x) v
+pub next_good : (σ : Setup) (c : ℕ) (x : Console) (v : ℕ) → c < σ.m → x.life ≤ max_life → x.best.ts < max_ts → Good σ (next_tag c x) v
 unfolding tag_ok next_tag
-next_good σ c x v l h = both (both (le-leb (x.best.ts + 1) max_ts (omega arith)) (lt-ltb c σ.m l)) (rw (ne_eqb (x.best.ts + 1) 0 (λ e. omega arith)))
+next_good σ c x v l i h = both (both (both (le-leb (x.best.ts + 1) max_ts (omega arith)) (lt-ltb c σ.m l)) (le-leb x.life max_life i)) (rw (ne_eqb (x.best.ts + 1) 0 (λ e. omega arith)))
 
 -- ---- waiting consoles
 
@@ -99,8 +92,14 @@ asking_zero σ x Idle e h z = absurd (contra e refl)
 asking_zero σ x (Telling k) e h z = absurd (contra e refl)
 asking_zero σ x Down e h z = absurd (contra e refl)
 asking_zero σ x (Asking k) e h z =
-    let zero = and_left (eqb x.best.ts 0 && eqb x.best.console 0) _ (implied (eqb x.answered 0) _ (and_right (wait_ok σ (ask_size σ) k x) _ h) z) in
-    omega (arith, eqb-true x.best.ts 0 (and_left (eqb x.best.ts 0) _ zero), eqb-true x.best.console 0 (and_right (eqb x.best.ts 0) _ zero))
+    let zero = and_left (eqb x.best.ts 0 && eqb x.best.console 0 && eqb x.best.life 0) _ (implied (eqb x.answered 0) _ (and_right (wait_ok σ (ask_size σ) k x) _ h) z) in
+    let before = and_left (eqb x.best.ts 0 && eqb x.best.console 0) _ zero in
+    omega (
+      arith,
+      eqb-true x.best.ts 0 (and_left (eqb x.best.ts 0) _ before),
+      eqb-true x.best.console 0 (and_right (eqb x.best.ts 0) _ before),
+      eqb-true x.best.life 0 (and_right (eqb x.best.ts 0 && eqb x.best.console 0) _ zero),
+    )
 
 -- ---- the mark
 
@@ -131,34 +130,41 @@ hears_mark x k u v (Asking w) h l un e = rw (insert_some x.answered k h l)
 
 -- ---- the changes of a console pass the tests
 
-pub rests_ok : (σ : Setup) (x : Console) → Passes σ Idle (rests Idle x) × Passes σ Down (rests Down x)
+pub rests_ok : (σ : Setup) (x : Console) → x.life ≤ max_life → Passes σ Idle (rests Idle x) × Passes σ Down (rests Down x)
 unfolding state_ok rest_ok is_zero rests mark_ok
-rests_ok σ x = (record { state = refl; mark = refl }, record { state = refl; mark = refl })
+rests_ok σ x i = (record { state = refl; mark = refl; life = i }, record { state = refl; mark = refl; life = i })
 
-pub asks_ok : (σ : Setup) (w : Kind) (v : ℕ) (x : Console) → Allowed σ → wanted_ok w v ≡ true → Passes σ (Asking w) (asks w v x)
+pub restarted_ok : (σ : Setup) (x : Console) → x.life < max_life → Passes σ Idle (restarted x)
+unfolding state_ok rest_ok is_zero restarted mark_ok
+restarted_ok σ x i = record { state = refl; mark = refl; life = omega arith }
+
+pub asks_ok : (σ : Setup) (w : Kind) (v : ℕ) (x : Console) → Allowed σ → x.life ≤ max_life → wanted_ok w v ≡ true → Passes σ (Asking w) (asks w v x)
 unfolding asks is_zero mark_ok size count member
-asks_ok σ w v x al h = record {
+asks_ok σ w v x al i h = record {
   state = asking_ok σ (asks w v x) (Asking w) refl (record { small = power_pos σ.n al.n_5; fewer = omega (arith, size_empty, ask_pos al); want = h }) refl;
   mark = refl;
+  life = i;
 }
 
 pub hears_ok : (σ : Setup) (x : Console) (k : ℕ) (u : Tag) (v : ℕ) → σ.n ≤ 5 → k < σ.n → is_asking x.state ≡ true → WaitsOk σ x.state x → member x.answered k ≡ false
-    → size (insert x.answered k) < ask_size σ → Passes σ x.state (hears x k u v)
+    → size (insert x.answered k) < ask_size σ → x.life ≤ max_life → Passes σ x.state (hears x k u v)
 unfolding hears
-hears_ok σ x k u v five l p w un few = record {
+hears_ok σ x k u v five l p w un few i = record {
   state = asking_ok σ (hears x k u v) x.state p
       (record { small = insert_small σ.n x.answered k five w.small l; fewer = omega (arith, few, ask_size_for σ x.state p); want = w.want })
       (rw (insert_some x.answered k (small_32 σ.n x.answered five w.small) (omega arith)));
   mark = hears_mark x k u v x.state (small_32 σ.n x.answered five w.small) (omega arith) un p;
+  life = i;
 }
 
 pub acked_ok : (σ : Setup) (x : Console) (k : ℕ) → σ.n ≤ 5 → k < σ.n → is_telling x.state ≡ true → WaitsOk σ x.state x → mark_ok x x.state ≡ true
-    → size (insert x.answered k) < tell_size σ → Passes σ x.state (acked x k)
+    → size (insert x.answered k) < tell_size σ → x.life ≤ max_life → Passes σ x.state (acked x k)
 unfolding acked
-acked_ok σ x k five l p w m few = record {
+acked_ok σ x k five l p w m few i = record {
   state = telling_ok σ (acked x k) x.state p
       (record { small = insert_small σ.n x.answered k five w.small l; fewer = omega (arith, few, tell_size_for σ x.state p); want = w.want });
   mark = acked_mark x k x.state p m;
+  life = i;
 }
 
 turn_wants : (s : State) (v : ℕ) → is_asking s ≡ true → wants_ok s v ≡ true → wants_ok (to_telling s) v ≡ true
@@ -168,12 +174,13 @@ turn_wants (Telling w) v e h = h
 turn_wants Down v e h = h
 
 pub tells_ok : (σ : Setup) (c : ℕ) (x : Console) → Allowed σ → is_asking x.state ≡ true → wants_ok x.state x.wanted ≡ true
-    → Passes σ (to_telling x.state) (tells c x)
+    → x.life ≤ max_life → Passes σ (to_telling x.state) (tells c x)
 unfolding tells
-tells_ok σ c x al p w = record {
+tells_ok σ c x al p w i = record {
   state = telling_ok σ (tells c x) (to_telling x.state) (turns x.state p).0
       (record { small = power_pos σ.n al.n_5; fewer = omega (arith, size_empty, tell_pos al, tell_size_for σ (to_telling x.state) (turns x.state p).0); want = turn_wants x.state x.wanted p w });
   mark = tells_mark c x (to_telling x.state) (turns x.state p).0;
+  life = i;
 }
 
 pub console_state : (σ : Setup) {x y : Console} {s : State} → y ≡ x → x.state ≡ s → Passes σ s x → Passes σ y.state y

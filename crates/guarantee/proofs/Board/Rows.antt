@@ -320,7 +320,7 @@ turned_floor σ c x fr tg t p h i = record {
 }
   where
     go : (w : Bool) → t + one w ≤ key (cond w (next_tag c x) x.best)
-    go true = omega (arith, h.console_8)
+    go true = omega (arith, h.console_8, h.life_fits)
     go false = omega arith
 
 -- a row of puts, none answered

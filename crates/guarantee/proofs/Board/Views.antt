@@ -9,7 +9,7 @@ use lib.Dec.{ltb}
 use Rattle.std.specs.Prelude.{Option, None, Some, Err}
 use Rattle.parts.proofs.FiniteLaws.{and_right, implied}
 use Rattle.parts.specs.AnsweredSet.{insert, member, size}
-use Rattle.parts.specs.Limits.{max_ts}
+use Rattle.parts.specs.Limits.{max_life, max_ts}
 use Rattle.parts.specs.Parts.{goes_to_node, is_asking, is_nothing, is_telling, is_up, writes}
 use Rattle.parts.specs.Sizes.{ask_size, tell_size}
 use Rattle.parts.specs.Tags.{compared}
@@ -23,10 +23,10 @@ use Rattle.parts.specs.declared.Setup.{Setup}
 use Rattle.parts.specs.declared.State.TheVariants.{Down, Idle}
 use Rattle.parts.specs.declared.Tag.{Tag}
 use Rattle.well_formed.specs.Clauses.{consoles_allowed, nodes_allowed}
-use Rattle.decisions.specs.Changes.{acked, asks, awaits, hears, rests, taken, takes_in, tells, with_up}
-use Rattle.decisions.specs.Steps.{Decision, accept, begins as beginning, ends, falls, rises}
+use Rattle.decisions.specs.Changes.{acked, asks, awaits, hears, restarted, rests, taken, takes_in, tells, with_up}
+use Rattle.decisions.specs.Steps.{Decision, accept, begins as beginning, ends, falls, restarts as restarting, rises}
 use Rattle.decisions.specs.Deliver.{acknowledged, delivered as decided, discards, finished as finishes, finishes_early, heard, is_withdrawn, on_ack, on_ask, on_frame, on_put, on_reply, replied, turned as turning}
-use Rattle.decisions.specs.Questions.{Question, console_is_idle, console_is_up, guarded, has_allowed_consoles, has_allowed_nodes, has_console, has_next_ts, has_node, holds_frame, is_well_formed, node_is_down, node_is_up}
+use Rattle.decisions.specs.Questions.{Question, console_is_down, console_is_idle, console_is_up, guarded, has_allowed_consoles, has_allowed_nodes, has_console, has_next_life, has_next_ts, has_node, holds_frame, is_well_formed, node_is_down, node_is_up}
 use Rattle.decisions.specs.declared.refusals.Refusal.{Refusal}
 use Rattle.decisions.specs.declared.Part.TheVariants.{NodeTo}
 use Rattle.decisions.specs.declared.Sent.TheVariants.{Keep}
@@ -34,14 +34,14 @@ use Rattle.board.specs.Answers.{answer, answer_with, refuse}
 use Rattle.board.specs.Boards.{console_at, frame_at, fresh_board, node_at, with_console, with_frame, with_node, with_row}
 use Rattle.board.specs.Applied.{applied, with_part, with_sent}
 use Rattle.board.specs.Deliver.{deliver}
-use Rattle.board.specs.Steps.{begin, console_down, fresh, node_down, node_up, smallest}
+use Rattle.board.specs.Steps.{begin, console_down, fresh, node_down, node_up, restart, smallest}
 use Rattle.board.specs.WellFormed.{well_formed}
 use Rattle.board.specs.declared.Answer.{Answer}
 use Rattle.board.specs.declared.Board.{Board}
 use Rattle.guarantee.specs.Claim.{◌also◌, All, none}
 use Rattle.guarantee.proofs.Laws.Lists.{all_head}
 use Rattle.guarantee.proofs.Laws.Sizes.{Allowed}
-use Rattle.guarantee.proofs.Laws.States.{both, contra, idle_is, split, split_but}
+use Rattle.guarantee.proofs.Laws.States.{both, contra, down_is, idle_is, split, split_but}
 
 -- a question answered yes
 abbrev pub Yes : Question → Type 0
@@ -191,3 +191,18 @@ consoles_down b c = questions (λ d. ConsolesDown b c (applied b c 0 d)) (is_wel
   where
     yes : All Yes (is_well_formed (well_formed b) ∷ has_console b.setup c ∷ console_is_up (console_at b c) ∷ []) → ConsolesDown b c (answer Done (with_console b c (rests Down (console_at b c))))
     yes (_ also cm also _ also none) = did_console (ltb-true c b.setup.m cm)
+
+-- the board on which console c is restarted
+unfoldable pub restarted_board : Board → ℕ → Board
+restarted_board b c = with_console (with_row b c Nothing) c (restarted (console_at b c))
+
+pub data Restarted (b : Board) (c : ℕ) : Answer → Type 0 where
+  no_restart : {r : Refusal} → Restarted b c (refuse b r)
+  did_restart : c < b.setup.m → (console_at b c).state ≡ Down → (console_at b c).life < max_life → Restarted b c (answer Done (restarted_board b c))
+
+pub restarts : (b : Board) (c : ℕ) → Restarted b c (restart b c)
+unfolding restart restarting applied with_sent with_part restarted_board
+restarts b c = questions (λ d. Restarted b c (applied b c 0 d)) _ (λ _. no_restart) yes
+  where
+    yes : All Yes (is_well_formed (well_formed b) ∷ has_console b.setup c ∷ console_is_down (console_at b c) ∷ has_next_life (console_at b c) ∷ []) → Restarted b c (answer Done (restarted_board b c))
+    yes (_ also cm also d also l also none) = did_restart (ltb-true c b.setup.m cm) (down_is (console_at b c).state d) (ltb-true (console_at b c).life max_life l)

@@ -48,7 +48,7 @@ module _ {K : TagKind} {σ : Setup} {b : Board} {c k : ℕ} (d : Delivery K σ b
   pub hear_ack_effect : size (insert (console_at b c).answered k) < tell_size b.setup → Effect K σ c b (answer Heard (with_console (with_frame b c k Nothing) c x₁))
   unfolding acked
   hear_ack_effect few = record {
-    ok = console_ok_lem d x₁ (d.ok.tagged.best c d.c_m) (acked_ok σ (console_at b c) k (five d) d.k_n p was_waiting (d.ok.console_in_lem c d.c_m).mark (omega (arith, few, ap tell_size d.ok.shape.setup_is))) ack_row;
+    ok = console_ok_lem d x₁ (d.ok.tagged.best c d.c_m) (acked_ok σ (console_at b c) k (five d) d.k_n p was_waiting (d.ok.console_in_lem c d.c_m).mark (omega (arith, few, ap tell_size d.ok.shape.setup_is)) (d.ok.console_in_lem c d.c_m).life) ack_row;
     beside = console_side d x₁;
     ups = console_ups d x₁;
     own = going refl (console_going d x₁ refl
@@ -63,6 +63,7 @@ module _ {K : TagKind} {σ : Setup} {b : Board} {c k : ℕ} (d : Delivery K σ b
   pub last_ack_effect : tell_size σ ≤ size (insert (console_at b c).answered k) → Effect K σ c b (finished None b c k x₁)
   unfolding acked
   last_ack_effect all = finish_effect d x₁ None (record {
+    life = (d.ok.console_in_lem c d.c_m).life;
     waits = telling_waits (console_at b c).state p;
     held = ack_held all;
     floor = λ t g. g.tells p;

@@ -16,6 +16,7 @@ use Rattle.parts.specs.declared.Outcome.TheVariants.{Discarded, Done, Finished, 
 use Rattle.parts.specs.declared.Setup.{Setup}
 use Rattle.parts.specs.declared.State.TheVariants.{Idle}
 use Rattle.parts.specs.declared.Tag.{Tag}
+use Rattle.board.proofs.WellFormedLaws.{tag_small}
 use Rattle.board.specs.Boards.{console_at, frame_at, node_at, with_console, with_frame}
 use Rattle.board.specs.declared.Answer.{Answer}
 use Rattle.board.specs.declared.Board.{Board}
@@ -24,7 +25,7 @@ use Rattle.guarantee.proofs.Laws.States.{ask_size_for, tell_size_for, waiting_ca
 use Rattle.guarantee.proofs.Board.Shapes.{Shape, console_same, frame_beside, frame_same, shape_frame}
 use Rattle.guarantee.proofs.Board.Rows.{Changed, Floor, Held, RowOk, ask_open, changed, tell_open}
 use Rattle.guarantee.proofs.Board.Boards.{Beside, BoardOk, FrameHas, Passes, TagKind, beside_console, beside_frame, beside_trans, kept, same_floor, same_row, tags}
-use Rattle.guarantee.proofs.Board.Consoles.{Fair, WaitsOk, tag_small, waits}
+use Rattle.guarantee.proofs.Board.Consoles.{Fair, WaitsOk, waits}
 use Rattle.guarantee.proofs.Delivery.Spent.{earlier_asking, earlier_telling, most, phase_le, spent}
 
 -- the floor under console c's operation, and its deliveries so far, on a board
@@ -134,7 +135,7 @@ module _ {K : TagKind} {σ : Setup} {b : Board} {c k : ℕ} (d : Delivery K σ b
   reply_kind e = rw e at (d.ok.tagged.frame c k d.c_m d.k_n)
 
   pub small_of : (t : Tag) (v : ℕ) → K t v → Small t
-  small_of t v i = tag_small d.ok.shape.allowed t v (d.fair.good t v i)
+  small_of t v i = tag_small σ t v d.ok.shape.allowed.m_8 (d.fair.good t v i)
 
   -- the frames stay of the kind K if the new one is
   pub frames_with : (f : Frame) → FrameHas K f → (j : ℕ) → j < σ.n → FrameHas K (frame_at (with_frame b c k f) c j)

@@ -3,6 +3,7 @@ use Prim.Native.Nat.{ℕ, ◌+◌, ◌≤◌}
 use mathlib.Core.Bool.{true}
 use mathlib.Core.Path.{refl, ap, ◌≡◌}
 use native.Mathlib.Omega.{arith}
+use Rattle.parts.specs.Limits.{max_life}
 use Rattle.parts.specs.Finite.{one}
 use Rattle.parts.specs.Parts.{is_waiting, writes}
 use Rattle.std.specs.declared.cmp.Ordering.{Ordering}
@@ -23,6 +24,7 @@ use Rattle.guarantee.proofs.Delivery.Effects.{Delivery, Effect, RowFloor, consol
 
 -- what a finish needs; with the last answer taken in the console is x, and best is the operation's tag
 pub record Finishes (K : TagKind) (σ : Setup) (b : Board) (c : ℕ) (x : Console) : Type 0 where
+  pub life : x.life ≤ max_life
   pub waits : is_waiting (console_at b c).state ≡ true
   pub held : Held σ (tags b) (key x.best)
   pub floor : (t : ℕ) → RowFloor σ b c t → t + one (writes (console_at b c).state) ≤ key x.best
@@ -39,9 +41,9 @@ module _ {K : TagKind} {σ : Setup} {b : Board} {c k : ℕ} (d : Delivery K σ b
   unfolding rests
   idle_row = rest_row σ idle_again (frame_at (with_frame b c k Nothing) c) (tags b) (five d) refl refl
 
-  idle_ok : BoardOk K σ next
+  idle_ok : x.life ≤ max_life → BoardOk K σ next
   unfolding rests
-  idle_ok = console_ok_lem d idle_again d.fair.zero_in (rests_ok σ x).0 idle_row
+  idle_ok l = console_ok_lem d idle_again d.fair.zero_in (rests_ok σ x l).0 idle_row
 
   is_idle : (console_at next c).state ≡ Idle
   unfolding rests
@@ -54,7 +56,7 @@ module _ {K : TagKind} {σ : Setup} {b : Board} {c k : ℕ} (d : Delivery K σ b
   pub finish_effect : (how : Option Ordering) → Finishes K σ b c x → Effect K σ c b (finished how b c k x)
   unfolding finished
   finish_effect how f = record {
-    ok = idle_ok;
+    ok = idle_ok f.life;
     beside = console_side d idle_again;
     ups = console_ups d idle_again;
     own = ends_now (record {

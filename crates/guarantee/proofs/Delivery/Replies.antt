@@ -91,7 +91,7 @@ module _ {K : TagKind} {σ : Setup} {b : Board} {c k : ℕ} (d : Delivery K σ b
   pub hear_effect : size (insert (console_at b c).answered k) < ask_size b.setup → Effect K σ c b (answer_with (Some (compared u (console_at b c).best)) Heard (with_console (with_frame b c k Nothing) c x₁))
   unfolding hears
   hear_effect few = record {
-    ok = console_ok_lem d x₁ heard_kind (hears_ok σ (console_at b c) k u v (five d) d.k_n p was_waiting un (omega (arith, few, ap ask_size d.ok.shape.setup_is))) hear_row;
+    ok = console_ok_lem d x₁ heard_kind (hears_ok σ (console_at b c) k u v (five d) d.k_n p was_waiting un (omega (arith, few, ap ask_size d.ok.shape.setup_is)) (d.ok.console_in_lem c d.c_m).life) hear_row;
     beside = console_side d x₁;
     ups = console_ups d x₁;
     own = going refl (console_going d x₁ refl
@@ -104,6 +104,7 @@ module _ {K : TagKind} {σ : Setup} {b : Board} {c k : ℕ} (d : Delivery K σ b
   pub early_effect : ask_size σ ≤ size (insert (console_at b c).answered k) → finishes_early b.setup x₁ ≡ true → Effect K σ c b (finished (Some (compared u (console_at b c).best)) b c k x₁)
   unfolding hears
   early_effect all early = finish_effect d x₁ (Some (compared u (console_at b c).best)) (record {
+    life = (d.ok.console_in_lem c d.c_m).life;
     waits = asking_waits (console_at b c).state p;
     held = early_held σ x₁ row₁ (tags b) (five d) p (early_alike b.setup x₁ early) (omega (arith, all, tell_le_ask σ)) hear_row;
     floor = λ t g. omega (arith, floor_heard all t g, ap one (early_reads b.setup x₁ early));
@@ -142,7 +143,7 @@ module _ {K : TagKind} {σ : Setup} {b : Board} {c k : ℕ} (d : Delivery K σ b
   module _ (chosen : writes (console_at b c).state ≡ true → K (next_tag c x₁) (console_at b c).wanted) (all : ask_size σ ≤ size (insert (console_at b c).answered k)) where
     turn_ok_state : Passes σ (to_telling (console_at b c).state) x₂
     unfolding hears
-    turn_ok_state = tells_ok σ c x₁ d.ok.shape.allowed p was_waiting.want
+    turn_ok_state = tells_ok σ c x₁ d.ok.shape.allowed p was_waiting.want (d.ok.console_in_lem c d.c_m).life
 
     turn_kind : K x₂.best x₂.value
     unfolding hears

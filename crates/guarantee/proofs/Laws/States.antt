@@ -69,6 +69,12 @@ idle_is (Asking w) e = absurd (contra e refl)
 idle_is (Telling w) e = absurd (contra e refl)
 idle_is Down e = absurd (contra e refl)
 
+pub down_is : (s : State) → not (is_up s) ≡ true → s ≡ Down
+down_is Idle e = absurd (contra e refl)
+down_is (Asking w) e = absurd (contra e refl)
+down_is (Telling w) e = absurd (contra e refl)
+down_is Down e = refl
+
 -- an asking console turns to telling, with its kind
 pub turns : (s : State) → is_asking s ≡ true → (is_telling (to_telling s) ≡ true) × (writes (to_telling s) ≡ writes s)
 turns Idle e = absurd (contra e refl)

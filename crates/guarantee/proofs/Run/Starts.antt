@@ -1,4 +1,4 @@
--- What the begins, the downs, node up and a fresh board do.
+-- What the begins, the downs, node up, restart and a fresh board do.
 use Prim.Native.Nat.{ℕ, zero, suc, ◌≤◌, ◌<◌}
 use mathlib.Core.Bool.{Bool, true, cond}
 use mathlib.Core.Path.{refl, ap, ◌≡◌}
@@ -6,6 +6,7 @@ use native.Mathlib.Omega.{arith}
 use borrow.Author.Tests.{ne_eqb, eq-eqb}
 use lib.Dec.{eqb}
 use lib.ListN.{get_or, replicate}
+use Rattle.parts.specs.Limits.{max_life}
 use Rattle.parts.specs.Parts.{cell_of, console_in, frame_in, fresh_node, idle_console, node_in, cell_index}
 use Rattle.parts.specs.declared.Cell.{Cell}
 use Rattle.parts.specs.declared.Console.{Console}
@@ -14,17 +15,17 @@ use Rattle.parts.specs.declared.Kind.{Kind}
 use Rattle.parts.specs.declared.Setup.{Setup}
 use Rattle.parts.specs.declared.State.TheVariants.{Asking, Down, Idle}
 use Rattle.well_formed.specs.Clauses.{is_zero, mark_ok, rest_ok, state_ok, wanted_ok}
-use Rattle.decisions.specs.Changes.{asks, rests, with_up}
+use Rattle.decisions.specs.Changes.{asks, restarted, rests, with_up}
 use Rattle.board.specs.Boards.{console_at, frame_at, fresh_board, node_at, with_console, with_node, with_row}
 use Rattle.board.specs.declared.Board.{Board}
 use Rattle.guarantee.proofs.Laws.Sets.{member_empty, power_pos}
 use Rattle.guarantee.proofs.Laws.Sizes.{Allowed}
 use Rattle.guarantee.proofs.Laws.States.{contra}
 use Rattle.guarantee.proofs.Board.Shapes.{console_same, nodes_with, row_beyond, row_same, shape_row}
-use Rattle.guarantee.proofs.Board.Views.{begun}
+use Rattle.guarantee.proofs.Board.Views.{begun, restarted_board}
 use Rattle.guarantee.proofs.Board.Rows.{Floor, Held, RowOk, begun_floor, grow_row, rest_row, unasked}
 use Rattle.guarantee.proofs.Board.Boards.{Beside, BoardOk, Passes, TagKind, beside_console, beside_node, beside_row, beside_trans, kept, same_floor, same_row, tags}
-use Rattle.guarantee.proofs.Board.Consoles.{Fair, asks_ok, console_state, rests_ok}
+use Rattle.guarantee.proofs.Board.Consoles.{Fair, asks_ok, console_state, restarted_ok, rests_ok}
 use Rattle.guarantee.proofs.Delivery.Effects.{RowFloor}
 
 -- ---- a console begins
@@ -82,7 +83,7 @@ module _ {K : TagKind} {σ : Setup} (fair : Fair K σ) (b : Board) (c : ℕ) (h 
 
     begin_ok_state : wanted_ok w v ≡ true → Passes σ (console_at (begun b c w v) c).state (console_at (begun b c w v) c)
     unfolding asks
-    begin_ok_state good = console_state σ begin_console refl (asks_ok σ w v (console_at b c) h.shape.allowed good)
+    begin_ok_state good = console_state σ begin_console refl (asks_ok σ w v (console_at b c) h.shape.allowed (h.console_in_lem c cm).life good)
 
     pub begin_effect : wanted_ok w v ≡ true → Begins K σ c w b (begun b c w v)
     unfolding begun node_at with_console with_row
@@ -113,7 +114,7 @@ module _ {K : TagKind} {σ : Setup} (fair : Fair K σ) (b : Board) (c : ℕ) (h 
 
   down_ok_state : Passes σ (console_at downed c).state (console_at downed c)
   unfolding rests
-  down_ok_state = console_state σ down_console refl (rests_ok σ (console_at b c)).1
+  down_ok_state = console_state σ down_console refl (rests_ok σ (console_at b c) (h.console_in_lem c cm).life).1
 
   down_row : RowOk σ (rests Down (console_at b c)) (frame_at b c) (tags b)
   unfolding rests
@@ -127,6 +128,49 @@ module _ {K : TagKind} {σ : Setup} (fair : Fair K σ) (b : Board) (c : ℕ) (h 
   pub down_ups : (j : ℕ) → (node_at downed j).up ≡ (node_at b j).up
   unfolding node_at with_console
   down_ups j = refl
+
+  -- ---- a console is restarted: it rests, and its row is empty
+
+  restart_console : console_at (restarted_board b c) c ≡ restarted (console_at b c)
+  unfolding restarted_board
+  restart_console = console_same (with_row b c Nothing) (shape_row b c Nothing h.shape) c (restarted (console_at b c)) c_below
+
+  pub restart_state : (console_at (restarted_board b c) c).state ≡ Idle
+  unfolding restarted
+  restart_state = ap (λ (y : Console). y.state) restart_console
+
+  pub restart_side : Beside σ c b (restarted_board b c)
+  unfolding restarted_board
+  restart_side = beside_trans (beside_row b c Nothing h.shape) (beside_console (with_row b c Nothing) c (restarted (console_at b c)))
+
+  restart_frame : (j : ℕ) → j < σ.n → frame_at (restarted_board b c) c j ≡ Nothing
+  unfolding restarted_board frame_at with_console
+  restart_frame j l = row_same b h.shape c j Nothing cm l
+
+  restart_beyond : (j : ℕ) → σ.n ≤ j → j < 5 → frame_at (restarted_board b c) c j ≡ frame_at b c j
+  unfolding restarted_board frame_at with_console
+  restart_beyond j l i = row_beyond b h.shape c j Nothing l
+
+  restart_best : K (restarted (console_at b c)).best (restarted (console_at b c)).value
+  unfolding restarted
+  restart_best = fair.zero_in
+
+  restart_row : RowOk σ (restarted (console_at b c)) (frame_at (restarted_board b c) c) (tags b)
+  unfolding restarted
+  restart_row = rest_row σ (restarted (console_at b c)) (frame_at (restarted_board b c) c) (tags b) h.shape.allowed.n_5 refl refl
+
+  restart_passes : (console_at b c).life < max_life → Passes σ (console_at (restarted_board b c) c).state (console_at (restarted_board b c) c)
+  unfolding restarted
+  restart_passes l = console_state σ restart_console refl (restarted_ok σ (console_at b c) l)
+
+  pub restart_ok : (console_at b c).life < max_life → BoardOk K σ (restarted_board b c)
+  unfolding restarted_board node_at with_console with_row
+  restart_ok l = kept c b (restarted_board b c) cm restart_side h h.tagged.node (rw restart_console restart_best) (restart_passes l)
+      (λ j i. rw (restart_frame j i) tt) restart_beyond (same_row σ restart_console (λ _ _. refl) restart_row)
+
+  pub restart_ups : (j : ℕ) → (node_at (restarted_board b c) j).up ≡ (node_at b j).up
+  unfolding restarted_board node_at with_console with_row
+  restart_ups j = refl
 
 -- ---- a node turns up or down: nothing of any row changes
 
@@ -172,7 +216,7 @@ module _ (σ : Setup) where
 
   fresh_state : Passes σ Idle idle_console
   unfolding state_ok rest_ok is_zero mark_ok
-  fresh_state = record { state = refl; mark = refl }
+  fresh_state = record { state = refl; mark = refl; life = omega arith }
 
   pub fresh_ok : {K : TagKind} → Fair K σ → Allowed σ → BoardOk K σ (fresh_board σ)
   unfolding fresh_board

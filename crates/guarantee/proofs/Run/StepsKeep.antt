@@ -1,4 +1,4 @@
--- Each of the six kinds of step keeps the invariant, and so does every run.
+-- Each of the seven kinds of step keeps the invariant, and so does every run.
 use Prim.Native.Nat.{ℕ, ◌+◌, ◌≤◌, ◌<◌}
 use mathlib.Core.Bool.{Bool, true, false, cond, ◌&&◌}
 use mathlib.Core.List.{List, map, ◌∷◌, []}
@@ -7,6 +7,7 @@ use native.Mathlib.Omega.{arith}
 use borrow.Author.Tests.{eqb-true, eqb-false}
 use lib.Dec.{eqb}
 use Rattle.parts.specs.Finite.{one}
+use Rattle.parts.specs.Limits.{max_life}
 use Rattle.parts.specs.Outcomes.{accepted}
 use Rattle.parts.specs.Parts.{is_telling, is_waiting, is_write}
 use Rattle.parts.specs.declared.Console.{Console}
@@ -15,11 +16,12 @@ use Rattle.parts.specs.declared.Kind.TheVariants.{Read, Write}
 use Rattle.parts.specs.declared.Outcome.{Outcome}
 use Rattle.parts.specs.declared.Outcome.TheVariants.{Discarded, Done, Finished, Handed, Heard, Refused, Turned}
 use Rattle.parts.specs.declared.Setup.{Setup}
-use Rattle.parts.specs.declared.State.TheVariants.{Down}
+use Rattle.parts.specs.declared.State.TheVariants.{Down, Idle}
+use Rattle.parts.specs.declared.Tag.{Tag}
 use Rattle.well_formed.specs.Clauses.{wanted_ok}
 use Rattle.decisions.specs.Changes.{hears, next_tag, rests, with_up}
 use Rattle.board.specs.Boards.{console_at, fresh_board, node_at, with_console, with_node}
-use Rattle.board.specs.Runs.{BeginRead, BeginWrite, ConsoleDown, Deliver, NodeDown, NodeUp, Step, step}
+use Rattle.board.specs.Runs.{BeginRead, BeginWrite, ConsoleDown, Deliver, NodeDown, NodeUp, Restart, Step, step}
 use Rattle.board.specs.Steps.{fresh}
 use Rattle.board.specs.declared.Answer.{Answer}
 use Rattle.board.specs.declared.Board.{Board}
@@ -30,12 +32,12 @@ use Rattle.guarantee.proofs.Laws.Tags.{key}
 use Rattle.guarantee.proofs.Laws.Sizes.{Allowed}
 use Rattle.guarantee.proofs.Laws.States.{asking_waits, contra, turns}
 use Rattle.guarantee.proofs.Board.Shapes.{m_is, n_is}
-use Rattle.guarantee.proofs.Board.Views.{Begun, ConsolesDown, Ranged, Switched, begins, begun, consoles_down, delivered, did_begin, did_console, did_node, fresh_made, no_begin, no_console, no_node, nodes_down, nodes_up}
-use Rattle.guarantee.proofs.Board.Boards.{BoardOk, Good, TagKind, beside_console, board_up}
+use Rattle.guarantee.proofs.Board.Views.{Begun, ConsolesDown, Ranged, Restarted, Switched, begins, begun, consoles_down, delivered, did_begin, did_console, did_node, did_restart, fresh_made, no_begin, no_console, no_node, no_restart, nodes_down, nodes_up, restarted_board, restarts}
+use Rattle.guarantee.proofs.Board.Boards.{Beside, BoardOk, Good, TagKind, beside_console, board_up}
 use Rattle.guarantee.proofs.Board.Consoles.{Fair, hears_kind, next_good}
 use Rattle.guarantee.proofs.Delivery.Effects.{Own, ends_now, goes_on, going, reply_kind, turns_now}
 use Rattle.guarantee.proofs.Delivery.Deliveries.{Chooses, StepEffect, deliver_effect, effect, effect_ok, refusal}
-use Rattle.guarantee.proofs.Run.Starts.{Begins, begin_effect, down_ok, down_state, down_ups, fresh_console, fresh_node_lem, fresh_ok, node_ok_lem, node_side, node_ups}
+use Rattle.guarantee.proofs.Run.Starts.{Begins, begin_effect, down_ok, down_state, down_ups, fresh_console, fresh_node_lem, fresh_ok, node_ok_lem, node_side, node_ups, restart_ok, restart_side, restart_state, restart_ups}
 use Rattle.guarantee.proofs.Run.Moves.{Moves, OpOk, deliver_moves, down_moves, open_complete, open_is}
 use Rattle.guarantee.proofs.Run.Known.{Known, good_fair, known_cons, known_fair, known_moves, more_written, tally_none}
 use Rattle.guarantee.proofs.Run.Invariant.{Inv, all_apart, inv_refused, inv_step, open_move, pairs_move, stepped, waits_beside}
@@ -65,6 +67,11 @@ module _ {σ : Setup} (r : Run) (h : Inv σ r) where
   al : Allowed σ
   al = h.ok.shape.allowed
 
+  -- a reply leaves the console's life as it is
+  lives : (c : ℕ) → c < σ.m → (k : ℕ) (u : Tag) (v : ℕ) → (hears (console_at r.board c) k u v).life ≤ max_life
+  unfolding hears
+  lives c cm k u v = (h.ok.console_in_lem c cm).life
+
   inv_deliver : (c k : ℕ) {a : Answer} → Ranged r.board c k a → StepEffect (Good σ) σ c r.board a → Inv σ (follow r (Deliver c k) a)
   unfolding noted up_after next_tag
   inv_deliver c k v refusal = inv_refused r h
@@ -89,7 +96,7 @@ module _ {σ : Setup} (r : Run) (h : Inv σ r) where
       -- a write that turns: its timestamp is one above a known one, and one more write has turned
       chosen : Chooses (Known σ l') σ b c k a
       chosen _ kn u v e p w t l = record {
-        good = next_good σ c (hears (console_at b c) k u v) (console_at b c).wanted cm l;
+        good = next_good σ c (hears (console_at b c) k u v) (console_at b c).wanted cm (lives c cm k u v) l;
         few = omega (
           arith,
           more_written c es h.ops (h.waits c cm (asking_waits (console_at b c).state p)) p w (ap is_telling t ∙ (turns (console_at b c).state p).0),
@@ -158,7 +165,7 @@ module _ {σ : Setup} (r : Run) (h : Inv σ r) where
       lone d true e = omega (arith, ap one e, tally_none (is_open_at d) (rw (eqb-true c d e) at (all_imp shut h.ops)))
       lone d false e = omega (arith, ap one e, h.alone d)
 
-  -- ---- the downs and the ups
+  -- ---- the downs, the ups and restart
 
   -- the board is kept whatever is known, and the log's operations move
   inv_same : (b' : Board) (l : List Op) (u : ℕ → Bool) → Each (Moves σ r.place r.board b') r.ops l → ((K : TagKind) → Fair K σ → BoardOk K σ r.board → BoardOk K σ b')
@@ -197,6 +204,24 @@ module _ {σ : Setup} (r : Run) (h : Inv σ r) where
       is_down : (console_at (with_console r.board c x) c).state ≡ Down
       is_down = down_state (known_fair σ r.ops al) r.board c h.ok cm
 
+  inv_restart : (c : ℕ) {a : Answer} → Restarted r.board c a → Inv σ (follow r (Restart c) a)
+  unfolding noted up_after
+  inv_restart c no_restart = inv_refused r h
+  inv_restart c (did_restart l d i) = inv_same (restarted_board r.board c) r.ops r.up
+      (all_apart al.n_5 side (λ e _ z q. contra z (rw (q, d))) h.ops)
+      (λ _ fair q. restart_ok fair r.board c q cm i)
+      (λ e _ w. waits_beside {σ = σ} side (λ w. absurd (contra w (rw is_idle))) e w)
+      (λ j l. restart_ups (known_fair σ r.ops al) r.board c h.ok cm j ∙ h.ups j l)
+    where
+      cm : c < σ.m
+      cm = omega (arith, m_is h.ok.shape)
+
+      side : Beside σ c r.board (restarted_board r.board c)
+      side = restart_side (known_fair σ r.ops al) r.board c h.ok cm
+
+      is_idle : (console_at (restarted_board r.board c) c).state ≡ Idle
+      is_idle = restart_state (known_fair σ r.ops al) r.board c h.ok cm
+
   -- ---- every step
 
   pub inv_next : (s : Step) → Inv σ (next r s)
@@ -204,10 +229,11 @@ module _ {σ : Setup} (r : Run) (h : Inv σ r) where
   inv_next (BeginRead c) = inv_begin (BeginRead c) c Read 0 refl (begins r.board c Read 0) (λ _. refl) refl
   inv_next (BeginWrite c v) = inv_begin (BeginWrite c v) c Write v refl (begins r.board c Write v) (λ _. refl) refl
   inv_next (Deliver c k) = inv_deliver c k (delivered r.board c k)
-      (deliver_effect (good_fair al) r.board c k (board_up (λ t v q. q.good) h.ok) (λ cm _ u v _ _ _ _ l. next_good σ c (hears (console_at r.board c) k u v) (console_at r.board c).wanted cm l) (delivered r.board c k))
+      (deliver_effect (good_fair al) r.board c k (board_up (λ t v q. q.good) h.ok) (λ cm _ u v _ _ _ _ l. next_good σ c (hears (console_at r.board c) k u v) (console_at r.board c).wanted cm (lives c cm k u v) l) (delivered r.board c k))
   inv_next (NodeDown k) = inv_node (NodeDown k) false k (nodes_down r.board k) (λ _. refl) (λ j. refl)
   inv_next (ConsoleDown c) = inv_down c (consoles_down r.board c)
   inv_next (NodeUp k) = inv_node (NodeUp k) true k (nodes_up r.board k) (λ _. refl) (λ j. refl)
+  inv_next (Restart c) = inv_restart c (restarts r.board c)
 
 pub inv_after : {σ : Setup} (ss : List Step) (r : Run) → Inv σ r → Inv σ (after r ss)
 unfolding after

@@ -62,7 +62,7 @@ pub fn early_sends_puts(t: &mut Taken) {
 /// An early finish leaves the console telling.
 pub fn early_stays_telling(t: &mut Taken) {
     if let Some((c, best, value)) = t.finished_by_reply() {
-        let telling = Console::at_rest(State::Telling(Kind::Read));
+        let telling = Console::at_rest(State::Telling(Kind::Read), t.console(c).life);
         *t.console(c) = Console { best, value, ..telling };
     }
 }
@@ -90,7 +90,7 @@ pub fn early_uncompared(t: &mut Taken) {
 
 /// Question 10 is asked of an early finish.
 pub fn early_asks_10(t: &mut Taken) {
-    if let Some((_, (MAX_TS, _), _)) = t.finished_by_reply() {
+    if let Some((_, (MAX_TS, ..), _)) = t.finished_by_reply() {
         t.refuse(10);
     }
 }

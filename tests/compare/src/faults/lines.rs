@@ -1,5 +1,5 @@
 //! Faults in the rules for lines.
-use crate::model::{Model, Release};
+use crate::model::{Model, Outcome, Release};
 use crate::schedule::*;
 
 pub fn limit_63(board: &mut Model, line: Line) -> Answer {
@@ -59,7 +59,7 @@ pub fn fields_before_length(board: &mut Model, line: Line) -> Answer {
 pub fn verb_before_fields(board: &mut Model, line: Line) -> Answer {
     let first = fields(line.text).next().unwrap_or_default();
     match answer(board, line) {
-        Err(NOT_THREE_FIELDS) if number(first).is_some_and(|verb| verb > 6) => Err(UNKNOWN_VERB),
+        Err(NOT_THREE_FIELDS) if number(first).is_some_and(|verb| verb > 7) => Err(UNKNOWN_VERB),
         other => other,
     }
 }
@@ -98,7 +98,7 @@ pub fn half_quoted(board: &mut Model, line: Line) -> Answer {
 /// A field that a step has no use for is not read.
 pub fn unused_unread(board: &mut Model, line: Line) -> Answer {
     let verb = fields(line.text).next().and_then(number);
-    let is_unused = |i| i == 2 && matches!(verb, Some(1 | 4 | 5 | 6));
+    let is_unused = |i| i == 2 && matches!(verb, Some(1 | 4 | 5 | 6 | 7));
     answer_as(board, line, |i, field| if is_unused(i) { b"0".to_vec() } else { field.to_vec() })
 }
 
@@ -111,12 +111,73 @@ pub fn small_board_taken(board: &mut Model, line: Line) -> Answer {
     answer
 }
 
+/// The three numbers of a line that is not too long.
+fn numbers_of(line: Line) -> Option<[u32; 3]> {
+    three_numbers(line.text).filter(|_| line.text.len() <= LONGEST)
+}
+
 /// Verb 6 is unknown.
 pub fn node_up_unknown(board: &mut Model, line: Line) -> Answer {
-    match three_numbers(line.text) {
-        Some([6, ..]) if line.text.len() <= LONGEST => Err(UNKNOWN_VERB),
+    match numbers_of(line) {
+        Some([6, ..]) => Err(UNKNOWN_VERB),
         _ => answer(board, line),
     }
+}
+
+/// Verb 7 is unknown.
+pub fn restart_unknown(board: &mut Model, line: Line) -> Answer {
+    match numbers_of(line) {
+        Some([7, ..]) => Err(UNKNOWN_VERB),
+        _ => answer(board, line),
+    }
+}
+
+/// Verb 8 is restart too.
+pub fn eight_restarts(board: &mut Model, line: Line) -> Answer {
+    match numbers_of(line) {
+        Some([8, console, _]) => answer_fields(board, format!("7,{console},0").as_bytes()),
+        _ => answer(board, line),
+    }
+}
+
+/// Verb 0 leaves the consoles their lives.
+pub fn fresh_keeps_lives(board: &mut Model, line: Line) -> Answer {
+    let before = board.clone();
+    let answer = answer(board, line);
+    if let (Some([0, ..]), Ok(_)) = (numbers_of(line), answer) {
+        for (c, x) in board.consoles.range_mut(..board.m) {
+            x.life = before.consoles[c].life;
+        }
+    }
+    answer
+}
+
+/// The life in the output is the one that the console has, not the tag's.
+pub fn life_of_console(board: &mut Model, line: Line) -> Answer {
+    let answer = answer(board, line)?;
+    match (numbers_of(line), answer) {
+        (Some([_, c, _]), Outcome::Finished((ts, console, _), value)) => {
+            Ok(Outcome::Finished((ts, console, board.consoles[&c].life), value))
+        }
+        _ => Ok(answer),
+    }
+}
+
+/// The output has no life.
+pub fn life_unwritten([fields @ .., _]: [u64; 7]) -> Vec<u64> {
+    fields.to_vec()
+}
+
+/// The life is written before the value.
+pub fn life_before_value(mut fields: [u64; 7]) -> Vec<u64> {
+    fields.swap(5, 6);
+    fields.to_vec()
+}
+
+/// The life is always written as 0.
+pub fn life_written_0(mut fields: [u64; 7]) -> Vec<u64> {
+    fields[6] = 0;
+    fields.to_vec()
 }
 
 /// The program's boards are of release 2.

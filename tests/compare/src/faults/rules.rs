@@ -14,6 +14,11 @@ pub fn reads_higher(rules: &mut Rules) {
     rules.rises = |_| true;
 }
 
+/// The tags of two writes must differ in ts or console.
+pub fn apart_without_life(rules: &mut Rules) {
+    rules.apart = |(ts, console, _)| (ts, console, 0);
+}
+
 /// The bound of a read that finishes early.
 pub fn early_bound_one_less(rules: &mut Rules) {
     rules.early_deliveries -= 1;

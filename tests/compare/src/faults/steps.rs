@@ -137,12 +137,12 @@ pub fn list_keeps_release(before: &Model, made: &mut Model) {
     made.release = before.release;
 }
 
-fn in_32_bits((ts, console): Tag) -> u32 {
-    (ts * 8 + console) as u32
+fn in_32_bits((ts, console, life): Tag) -> (u32, u64) {
+    ((ts * 8 + console) as u32, life)
 }
 
-fn times_4((ts, console): Tag) -> u64 {
-    ts * 4 + console
+fn times_4((ts, console, life): Tag) -> (u64, u64) {
+    (ts * 4 + console, life)
 }
 
 /// The tag of a put is compared by ts × 8 + console, worked in 32 bits.

@@ -109,7 +109,7 @@ impl Taken<'_> {
     /// The step as if this console were idle or down; it stays what it is.
     pub fn step_as(&mut self, c: u32, state: State) {
         let mut board = self.before.clone();
-        board.consoles.insert(c, Console::at_rest(state));
+        board.consoles.insert(c, Console::at_rest(state, board.consoles[&c].life));
         (self.answer, self.next) = board.step(self.step);
         self.next.consoles.insert(c, self.before.consoles[&c].clone());
     }

@@ -1,4 +1,4 @@
--- The release is asked, and each part in its own words.
+-- The setup is asked, and each part in its own words.
 use Rattle.layout.specs.InWords.{all_stand}
 use Rattle.layout.specs.Standing.{parts_stand}
 use Rattle.layout.proofs.standing.parts_stand.Goals as goal
@@ -6,7 +6,7 @@ use Rattle.layout.proofs.standing.parts_stand.Goals as goal
 pub returns : goal.returns
 unfolding parts_stand all_stand
 returns c = rw (
-  c.release_stands.ensures,
+  c.setup_stands.ensures,
   c.all_stand.ensures,
   c.words_of_each.ensures,
   c.all_stand-2.ensures,

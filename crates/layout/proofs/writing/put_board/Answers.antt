@@ -10,5 +10,5 @@ returns-clause-written c =
     let consoles = c.put_parts-2.ensures in
     let cells = c.put_parts-3.ensures in
     written c.args.w.now _ c.args.b c.told-w
-    (record { nodes_long = nodes.long; consoles_long = consoles.long; cells_long = cells.long; bytes = consoles.fit })
+    (record { nodes_long = nodes.long; consoles_long = consoles.long; cells_long = cells.long; nodes_fit = nodes.fit; consoles_fit = consoles.fit; cells_fit = cells.fit })
     (rw (cells.written, consoles.written, nodes.written, setup, c.setup_words.ensures))
