@@ -53,7 +53,7 @@ compared_key t b ht hb =
     go false e true f = ltb-true (key t) (key b) (sym f)
     go false e false f = omega (arith, ltb-false (key b) (key t) (sym e), ltb-false (key t) (key b) (sym f))
 
--- the keys of (0, 0), of (1, 1) in its console's second life, and of the highest tag
+-- the keys of (0, 0), of (1, 1) in life 2, and of the highest tag
 pub key_values : (key zero_tag ≡ 0) × (key (record { ts = 1; console = 1; life = 2 }) ≡ 589826) × (key (record { ts = max_ts; console = 7; life = max_life }) ≡ 2097152000459752)
 key_values = (refl, refl, refl)
 
