@@ -36,12 +36,24 @@ static int list(void)
     return 0;
 }
 
-/* console 1 begins a write and goes down; after its restart it writes again, and the tag has life 1 */
+/* console 1 writes 7 by nodes 0 and 2; its tag is (1, 1) of this life */
+static int write_7(uint32_t life)
+{
+    if (board_begin_write(words, BOARD_WORDS, said, ANSWER_WORDS, 1, 7) != 0 || said[0] != 1)
+        return 2;
+    if (twice(1, 0) != 3 || twice(1, 2) != 4 || twice(1, 0) != 3 || twice(1, 2) != 5)
+        return 3;
+    if (said[2] != 1 || said[3] != 1 || said[4] != 7 || said[6] != life)
+        return 4;
+    return 0;
+}
+
+/* a console that goes down in its write and is restarted writes in life 1 */
 static int again(void)
 {
     if (board_fresh(words, BOARD_WORDS, said, ANSWER_WORDS, 3, 2) != 0 || said[0] != 1)
         return 14;
-    if (board_begin_write(words, BOARD_WORDS, said, ANSWER_WORDS, 1, 7) != 0 || said[0] != 1)
+    if (board_begin_write(words, BOARD_WORDS, said, ANSWER_WORDS, 1, 8) != 0 || said[0] != 1)
         return 15;
     if (board_console_down(words, BOARD_WORDS, said, ANSWER_WORDS, 1) != 0 || said[0] != 1)
         return 16;
@@ -50,14 +62,7 @@ static int again(void)
     /* now console 1 is up: refused with 15 */
     if (board_restart(words, BOARD_WORDS, said, ANSWER_WORDS, 1) != 0 || said[0] != 0 || said[1] != 15)
         return 18;
-    if (board_begin_write(words, BOARD_WORDS, said, ANSWER_WORDS, 1, 7) != 0 || said[0] != 1)
-        return 19;
-    if (twice(1, 0) != 3 || twice(1, 2) != 4 || twice(1, 0) != 3 || twice(1, 2) != 5)
-        return 20;
-    /* finished with tag (1, 1) of life 1, value 7 */
-    if (said[2] != 1 || said[3] != 1 || said[4] != 7 || said[6] != 1)
-        return 21;
-    return 0;
+    return write_7(1);
 }
 
 /* under release 2 a read of a fresh board finishes with its second reply, whose tag is the same as the first's */
@@ -76,13 +81,9 @@ int main(void)
 {
     if (board_fresh(words, BOARD_WORDS, said, ANSWER_WORDS, 3, 2) != 0 || said[0] != 1)
         return 1;
-    if (board_begin_write(words, BOARD_WORDS, said, ANSWER_WORDS, 1, 7) != 0 || said[0] != 1)
-        return 2;
-    if (twice(1, 0) != 3 || twice(1, 2) != 4 || twice(1, 0) != 3 || twice(1, 2) != 5)
-        return 3;
-    /* finished with tag (1, 1) of life 0, value 7 */
-    if (said[2] != 1 || said[3] != 1 || said[4] != 7 || said[6] != 0)
-        return 4;
+    int wrong = write_7(0);
+    if (wrong != 0)
+        return wrong;
     /* there is no console 2: refused by question 4 */
     if (board_begin_read(words, BOARD_WORDS, said, ANSWER_WORDS, 2) != 0 || said[0] != 0 || said[1] != 4)
         return 5;
@@ -93,7 +94,7 @@ int main(void)
     /* now node 1 is up: refused with 14 */
     if (board_node_up(words, BOARD_WORDS, said, ANSWER_WORDS, 1) != 0 || said[0] != 0 || said[1] != 14)
         return 8;
-    int wrong = list();
+    wrong = list();
     if (wrong == 0)
         wrong = again();
     return wrong != 0 ? wrong : quiet();

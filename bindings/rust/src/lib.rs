@@ -381,6 +381,16 @@ mod tests {
         compared: Compared::Same,
     };
 
+    /// Finished with the tag of console 0's first write, of 7, in this life.
+    fn finished_7(life: u32, compared: Compared) -> Answer {
+        let (ts, console) = (1, 0);
+        let tag = Tag { ts, console, life };
+        Answer {
+            outcome: Outcome::Finished { tag, value: 7 },
+            compared,
+        }
+    }
+
     const DISCARDED: Answer = Answer {
         outcome: Outcome::Discarded,
         compared: Compared::None,
@@ -543,16 +553,7 @@ mod tests {
         let again = [Step::ConsoleDown { console: 0 }, Step::Restart { console: 0 }];
         assert_eq!(board.run(&again), [Ok(DONE), Ok(DONE)]);
         board.begin_write(0, 7).unwrap();
-        let tag = Tag {
-            ts: 1,
-            console: 0,
-            life: 1000,
-        };
-        let finished = Answer {
-            outcome: Outcome::Finished { tag, value: 7 },
-            compared: Compared::None,
-        };
-        assert_eq!(deliver_all(&mut board, 0, &[0, 0, 0, 0]), finished);
+        assert_eq!(deliver_all(&mut board, 0, &[0, 0, 0, 0]), finished_7(1000, Compared::None));
         assert_eq!(board.words()[NODES + 2], 1000);
         // It is up: 15 is asked before 16.
         assert_eq!(board.restart(0), Err(Refusal(15)));
@@ -638,16 +639,7 @@ mod tests {
         assert_eq!(board.node_down(0), Ok(DONE));
         assert_eq!(board.run(&[Step::NodeUp { node: 0 }]), [Ok(DONE)]);
         assert_eq!(board, before);
-        let tag = Tag {
-            ts: 1,
-            console: 0,
-            life: 0,
-        };
-        let finished = Answer {
-            outcome: Outcome::Finished { tag, value: 7 },
-            compared: Compared::None,
-        };
-        assert_eq!(board.deliver(0, 0), Ok(finished));
+        assert_eq!(board.deliver(0, 0), Ok(finished_7(0, Compared::None)));
         assert_eq!(Refusal(14).to_string(), "refused with 14: the node is up");
     }
 
@@ -740,16 +732,7 @@ mod tests {
         board.begin_write(0, 7).unwrap();
         deliver_all(&mut board, 0, &[0, 0, 0, 0]);
         board.begin_read(0).unwrap();
-        let tag = Tag {
-            ts: 1,
-            console: 0,
-            life: 0,
-        };
-        let finished = Answer {
-            outcome: Outcome::Finished { tag, value: 7 },
-            compared: Compared::Higher,
-        };
-        assert_eq!(deliver_all(&mut board, 0, &[0, 0]), finished);
+        assert_eq!(deliver_all(&mut board, 0, &[0, 0]), finished_7(0, Compared::Higher));
     }
 
     #[test]

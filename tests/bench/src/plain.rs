@@ -251,12 +251,17 @@ impl<const CHECKED: bool> Board<CHECKED> {
         took_none(Outcome::Done)
     }
 
-    pub fn console_down(&mut self, console: u32) -> Result<Answer, Refusal> {
+    /// Questions 1 and 4, and the console.
+    fn asked_console(&mut self, console: u32) -> Result<&mut Console, Refusal> {
         self.ask_question_1()?;
         if console >= self.m {
             return Err(Refusal(4));
         }
-        let x = &mut self.consoles[console as usize];
+        Ok(&mut self.consoles[console as usize])
+    }
+
+    pub fn console_down(&mut self, console: u32) -> Result<Answer, Refusal> {
+        let x = self.asked_console(console)?;
         if x.state == DOWN {
             return Err(Refusal(6));
         }
@@ -265,11 +270,7 @@ impl<const CHECKED: bool> Board<CHECKED> {
     }
 
     pub fn restart(&mut self, console: u32) -> Result<Answer, Refusal> {
-        self.ask_question_1()?;
-        if console >= self.m {
-            return Err(Refusal(4));
-        }
-        let x = &mut self.consoles[console as usize];
+        let x = self.asked_console(console)?;
         if x.state != DOWN {
             return Err(Refusal(15));
         }
@@ -282,11 +283,7 @@ impl<const CHECKED: bool> Board<CHECKED> {
     }
 
     fn begin(&mut self, console: u32, asking: u32, wanted: u32) -> Result<Answer, Refusal> {
-        self.ask_question_1()?;
-        if console >= self.m {
-            return Err(Refusal(4));
-        }
-        let x = &mut self.consoles[console as usize];
+        let x = self.asked_console(console)?;
         match x.state {
             IDLE => {}
             DOWN => return Err(Refusal(6)),

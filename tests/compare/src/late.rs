@@ -1,12 +1,10 @@
 //! Runs from late timestamps: beside the last one, where question 10 refuses, and beside those at which a number of 32
 //! bits for a tag would wrap (Paper 5).
-use crate::beside::{both, listed, made, Agreed};
+use crate::beside::{made, Agreed};
 use crate::faults::{put_in_32_bits, reply_in_32_bits, Faulty, Taken};
 use crate::model::{Answer, Compared, Model, Outcome, Release, Step, MAX_TS};
-use crate::runs::LENGTH;
-use crate::words;
+use crate::runs;
 use common::Chance;
-use hatukeno::Board;
 
 /// At each multiple of this timestamp ts × 8 would wrap to 0, if it were worked in 32 bits.
 pub const WRAPS_AT: u32 = 1 << 29;
@@ -31,18 +29,10 @@ impl Late {
             node.tag = (ts.into(), console.into(), life.into());
             node.value = chance.value();
         }
-        let first = Board::from_words(words::write(&model));
-        let mut board = first.clone();
-        let (mut list, mut answers) = (Vec::new(), Vec::new());
-        for _ in 0..LENGTH {
-            let step = chance.step(n, m, false);
-            self.add_wrapped(&model, step);
-            answers.push(both(&mut board, &mut model, step, faulty)?);
-            list.push(step.into());
-        }
-        listed(first, &list, &answers, &board)?;
-        answers.into_iter().for_each(|answer| self.add(answer));
-        Ok(())
+        runs::from_board(model, false, chance, faulty, |before, step, answer| {
+            self.add_wrapped(before, step);
+            self.add(answer);
+        })
     }
 
     fn add_wrapped(&mut self, model: &Model, step: Step) {

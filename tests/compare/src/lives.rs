@@ -1,12 +1,10 @@
 //! Runs from boards whose consoles have lives beside the last one (Paper 7): a restart is accepted at 999, refused with
 //! 16 at 1,000, and writes choose tags with these lives.
-use crate::beside::{both, listed, made, Agreed};
+use crate::beside::{made, Agreed};
 use crate::faults::{put_without_life, reply_without_life, Faulty, Taken};
 use crate::model::{Answer, Model, Outcome, Release, Step, MAX_LIFE};
-use crate::runs::LENGTH;
-use crate::words;
+use crate::runs;
 use common::Chance;
-use hatukeno::Board;
 
 /// What such runs show: restarts to the last life and to lower ones, those refused with 16 and those of an up console
 /// with the last life, which are refused with 15, operations finished with a tag of the last life, and deliveries of a
@@ -40,19 +38,10 @@ impl Lives {
         for console in model.consoles.values_mut().take(m as usize) {
             console.life = late_life(chance);
         }
-        let first = Board::from_words(words::write(&model));
-        let mut board = first.clone();
-        let (mut list, mut answers) = (Vec::new(), Vec::new());
-        for _ in 0..LENGTH {
-            let step = chance.step(n, m, true);
-            self.add_by_life(&model, step);
-            let before = model.clone();
-            let answer = both(&mut board, &mut model, step, faulty)?;
-            self.add(&before, step, answer);
-            answers.push(answer);
-            list.push(step.into());
-        }
-        listed(first, &list, &answers, &board)
+        runs::from_board(model, true, chance, faulty, |before, step, answer| {
+            self.add_by_life(before, step);
+            self.add(before, step, answer);
+        })
     }
 
     fn add_by_life(&mut self, model: &Model, step: Step) {

@@ -33,6 +33,29 @@ fn one_by_one(n: u32, m: u32, release: Release, steps: &[Step], faulty: Faulty, 
     Ok(Ran { answers, board })
 }
 
+/// A run from the model's board, one by one and as a list. Each step is shown with the model's board before it and the
+/// answer.
+pub fn from_board(
+    mut model: Model,
+    crashes: bool,
+    chance: &mut Chance,
+    faulty: Faulty,
+    mut show: impl FnMut(&Model, Step, Answer),
+) -> Agreed {
+    let first = Board::from_words(words::write(&model));
+    let mut board = first.clone();
+    let (mut list, mut answers) = (Vec::new(), Vec::new());
+    for _ in 0..LENGTH {
+        let step = chance.step(model.n, model.m, crashes);
+        let before = model.clone();
+        let answer = both(&mut board, &mut model, step, faulty)?;
+        show(&before, step, answer);
+        answers.push(answer);
+        list.push(step.into());
+    }
+    listed(first, &list, &answers, &board)
+}
+
 /// The same steps under each release, one by one and as a list with a refused fresh in its midst.
 pub fn run(n: u32, m: u32, crashes: bool, chance: &mut Chance, faulty: Faulty, counts: &mut [Counts; 2]) -> Agreed {
     fresh(n, m)?;

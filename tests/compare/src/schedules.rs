@@ -56,7 +56,7 @@ impl Counts {
         println!("seed {seed}: {} lines in {} schedules agree", self.lines, self.schedules);
         println!("{accepted} lines were accepted, {} of them finished an operation", self.finished);
         let each: Vec<String> = self.refused.iter().map(|(refusal, lines)| format!("{refusal}: {lines}")).collect();
-        println!("{refused} lines were refused, with {}", each.join(", "));
+        println!("{refused} lines were refused, with\n  {}", each.join(", "));
     }
 }
 

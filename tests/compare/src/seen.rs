@@ -39,14 +39,14 @@ impl Seen {
             self.steps
         );
         println!(
-            "and 8 steps on each of {ill} damaged boards, {by_one} of them by one word, and of {well} that were well formed all the same"
+            "and 8 steps on each of {ill} damaged boards, {by_one} of them by one word\n  and of {well} that were well formed all the same"
         );
         println!(
-            "and runs beside the last timestamp, {} of their deliveries refused with 10, {} early finishes with the last timestamp",
+            "and runs beside the last timestamp, {} of their deliveries refused with 10\n  {} early finishes with the last timestamp",
             self.late.refused, self.late.early
         );
         println!(
-            "and runs beside the timestamps at which ts × 8 would wrap to 0 in 32 bits, {} puts and {} replies of which would then go otherwise",
+            "and runs beside the timestamps at which ts × 8 would wrap to 0 in 32 bits\n  {} puts and {} replies of which would then go otherwise",
             self.late.puts_wrapped, self.late.replies_wrapped
         );
         self.reboots.print();
@@ -75,17 +75,17 @@ impl Seen {
     fn print_steps(&self) {
         let [waited_for, not_waited_for, again, twice] = self.node_ups();
         println!(
-            "{} node ups were accepted, {waited_for} of them with frames waiting for the node; {again} times a console with no frame to deliver had one again",
+            "{} node ups were accepted, {waited_for} of them with frames waiting for the node\n  {again} times a console with no frame to deliver had one again",
             waited_for + not_waited_for
         );
         println!("{twice} node downs and node ups were refused because the node was so already");
         let [lower, same, higher, set, kept, cleared, turned, ended] = self.replies();
         println!(
-            "{lower} replies taken in were lower, {same} the same, {higher} higher; {set} set the mark, {kept} kept it, {cleared} cleared it by a differing tag, {turned} by the turn, {ended} by an early finish"
+            "{lower} replies taken in were lower, {same} the same, {higher} higher\n  {set} set the mark, {kept} kept it, {cleared} cleared it by a differing tag, {turned} by the turn, {ended} by an early finish"
         );
         let [asks, puts, from_down, _, landing] = self.withdrawn();
         println!(
-            "{asks} asks and {puts} puts of down consoles were withdrawn, {from_down} of them from a node that was down; {landing} of the puts would have landed, at a node that was up"
+            "{asks} asks and {puts} puts of down consoles were withdrawn, {from_down} of them from a node that was down\n  {landing} of the puts would have landed, at a node that was up"
         );
         let [emptied, not_emptied, idle, waiting] = self.restarts();
         println!(
