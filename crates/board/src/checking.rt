@@ -13,13 +13,13 @@ use well_formed::ranges::is_setup_ok;
 impl Board {
     // Whether the board is well formed, on any board whatever.
     #[tactic(auto, unfolding(crate::specs::WellFormed::well_formed))]
-    pub fn is_well_formed(self) -> bool
-        ensures { result ≡ well_formed self }
+    pub fn is_well_formed(&self) -> bool
+        ensures { result ≡ well_formed self.now }
     {
         is_setup_ok(self.setup)
-            && are_nodes_ok(self.setup, self.nodes)
-            && are_consoles_ok(self.setup, self.consoles)
-            && are_cells_ok(self.setup, self.cells)
+            && are_nodes_ok(self.setup, &self.nodes)
+            && are_consoles_ok(self.setup, &self.consoles)
+            && are_cells_ok(self.setup, &self.cells)
     }
 
     // The board of no nodes and no consoles, which is not well formed: what stands for no board is read as this one.

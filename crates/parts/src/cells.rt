@@ -14,8 +14,8 @@ pub fn cell_index(c: ConsoleId, k: NodeId) -> usize
 
 // The frame in the cell of console c and node k.
 #[tactic(auto, unfolding(crate::specs::Parts::frame_in))]
-pub fn frame_in(cells: [Cell; CELLS], c: ConsoleId, k: NodeId) -> Frame
-    ensures { result ≡ frame_in cells c.0 k.0 }
+pub fn frame_in(cells: &[Cell; CELLS], c: ConsoleId, k: NodeId) -> Frame
+    ensures { result ≡ frame_in cells.now c.0 k.0 }
 {
     cells
         .get(cell_index(c, k))

@@ -19,8 +19,8 @@ impl Console {
 
 // Console c; from 8 on an idle one. (The cast: cells.rt.)
 #[tactic(auto, unfolding(crate::specs::Parts::console_in))]
-pub fn console_in(consoles: [Console; CONSOLES], c: ConsoleId) -> Console
-    ensures { result ≡ console_in consoles c.0 }
+pub fn console_in(consoles: &[Console; CONSOLES], c: ConsoleId) -> Console
+    ensures { result ≡ console_in consoles.now c.0 }
 {
     consoles.get(c.0 as usize).copied().unwrap_or(Console::IDLE)
 }

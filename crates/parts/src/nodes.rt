@@ -15,8 +15,8 @@ impl Node {
 
 // Node k; from 5 on a fresh node. (The cast: cells.rt.)
 #[tactic(auto, unfolding(crate::specs::Parts::node_in))]
-pub fn node_in(nodes: [Node; NODES], k: NodeId) -> Node
-    ensures { result ≡ node_in nodes k.0 }
+pub fn node_in(nodes: &[Node; NODES], k: NodeId) -> Node
+    ensures { result ≡ node_in nodes.now k.0 }
 {
     nodes.get(k.0 as usize).copied().unwrap_or(Node::FRESH)
 }

@@ -48,8 +48,8 @@ fn is_row_ok(setup: Setup, cells: &[Cell; CELLS], c: ConsoleId) -> bool
 }
 
 // Cell by cell, row by row.
-pub fn are_cells_ok(setup: Setup, cells: [Cell; CELLS]) -> bool
-    ensures { result ≡ cells_ok setup cells }
+pub fn are_cells_ok(setup: Setup, cells: &[Cell; CELLS]) -> bool
+    ensures { result ≡ cells_ok setup cells.now }
 {
-    every(MAX_CONSOLES, |c| is_row_ok(setup, &cells, ConsoleId(c)))
+    every(MAX_CONSOLES, |c| is_row_ok(setup, cells, ConsoleId(c)))
 }

@@ -71,8 +71,8 @@ fn is_console_ok(setup: Setup, c: ConsoleId, x: Console) -> bool
 }
 
 // Console by console. (The cast: cells.rt of parts.)
-pub fn are_consoles_ok(setup: Setup, consoles: [Console; CONSOLES]) -> bool
-    ensures { result ≡ consoles_ok setup consoles }
+pub fn are_consoles_ok(setup: Setup, consoles: &[Console; CONSOLES]) -> bool
+    ensures { result ≡ consoles_ok setup consoles.now }
 {
     every(MAX_CONSOLES, |c| {
         is_console_ok(setup, ConsoleId(c), consoles[c as usize])

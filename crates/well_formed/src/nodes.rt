@@ -18,8 +18,8 @@ fn is_node_ok(setup: Setup, k: NodeId, x: Node) -> bool
 }
 
 // Node by node. (The cast: cells.rt of parts.)
-pub fn are_nodes_ok(setup: Setup, nodes: [Node; NODES]) -> bool
-    ensures { result ≡ nodes_ok setup nodes }
+pub fn are_nodes_ok(setup: Setup, nodes: &[Node; NODES]) -> bool
+    ensures { result ≡ nodes_ok setup nodes.now }
 {
     every(
         MAX_NODES,

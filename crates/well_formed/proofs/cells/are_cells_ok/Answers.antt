@@ -5,4 +5,4 @@ use Rattle.well_formed.proofs.cells.are_cells_ok.Goals as goal
 
 pub returns : goal.returns
 unfolding cells_ok
-returns c = c.every.ensures (row_ok c.args.setup c.args.cells) (λ k yes h post. search rules)
+returns c = c.every.ensures (row_ok c.args.setup c.args.cells.now) (λ k yes h post. search rules)

@@ -6,4 +6,4 @@ use Rattle.well_formed.proofs.consoles.are_consoles_ok.Goals as goal
 
 pub returns : goal.returns
 unfolding consoles_ok console_in
-returns c = c.every.ensures (λ k. console_ok c.args.setup k (console_in c.args.consoles k)) (λ k yes h post. search rules)
+returns c = c.every.ensures (λ k. console_ok c.args.setup k (console_in c.args.consoles.now k)) (λ k yes h post. search rules)

@@ -15,7 +15,7 @@ pub returns : goal.returns
 unfolding nodes_ok node_in zero_node
 returns c =
     c.every.ensures
-    (λ k. node_ok c.args.setup k (node_in c.args.nodes k))
+    (λ k. node_ok c.args.setup k (node_in c.args.nodes.now k))
     (λ k yes h post.
-    let said : yes ≡ node_ok c.args.setup k (get_or c.args.nodes k zero_node) = search rules in
-    said ∙ ap (node_ok _ _) (get_or_default c.args.nodes k zero_node fresh_node (omega arith)))
+    let said : yes ≡ node_ok c.args.setup k (get_or c.args.nodes.now k zero_node) = search rules in
+    said ∙ ap (node_ok _ _) (get_or_default c.args.nodes.now k zero_node fresh_node (omega arith)))
