@@ -2,4 +2,6 @@
 -- P10. The functions' own proofs stand in the folders beside.
 pub mod WellFormedLaws
 pub mod Opened
+pub mod AcceptedLaws
+pub mod FramesLaws
 pub mod PRunsHold

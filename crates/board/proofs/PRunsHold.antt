@@ -1,11 +1,12 @@
 -- P1 to P10 as one theorem, by computation: what each run of the list shows is what it must show. Then the same of the
 -- runs of node up, of those that say how replies compare, of those under release 2, of those with a down console, and
--- of those that hold the definitions to single sentences, of those of restart, of decisions; and of question 1's
--- boards.
+-- of those that hold the definitions to single sentences, of those of restart, of previews, of decisions; and of
+-- question 1's boards.
 use mathlib.Core.List.{List, map}
 use mathlib.Core.Path.{◌≡◌, refl}
 use Rattle.board.specs.WellFormed.{well_formed}
 use Rattle.board.proofs.Opened.{opened_step}
+use Rattle.board.specs.Preview.{frames_in, preview_of}
 use Rattle.board.specs.PRuns.{PRun, Seen, seen, left, all_seen, shows, must_show, p_runs}
 use Rattle.board.specs.UpRuns.{up_runs}
 use Rattle.board.specs.CompareRuns.{CompareRun, Told, all_told, says, must_say, written, lower, higher, compare_runs}
@@ -13,6 +14,7 @@ use Rattle.board.specs.QuietRuns.{quiet_runs, quiet_replies}
 use Rattle.board.specs.DeadRuns.{dead_runs}
 use Rattle.board.specs.OrderRuns.{Decided, order_runs, order_decisions}
 use Rattle.board.specs.RestartRuns.{restart_runs, restart_replies, restart_decisions}
+use Rattle.board.specs.PreviewRuns.{PreviewRun, Shown, after, all_shown, foresees, must_foresee, preview_runs}
 use Rattle.board.specs.FormedBoards.{FormedBoard, formed_boards}
 
 -- what runs show, with every definition opened
@@ -67,3 +69,11 @@ restart_decisions_hold = refl
 pub formed_boards_hold : map (λ (x : FormedBoard). well_formed x.board) formed_boards ≡ map (λ (x : FormedBoard). x.formed) formed_boards
 unfolding opened formed_boards
 formed_boards_hold = refl
+
+foreseen : List PreviewRun → List (List Shown)
+unfolding opened_step frames_in preview_of after all_shown
+foreseen rs = map foresees rs
+
+pub preview_runs_hold : map foresees preview_runs ≡ map must_foresee preview_runs
+unfolding foreseen preview_runs
+preview_runs_hold = refl

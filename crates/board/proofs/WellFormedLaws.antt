@@ -48,11 +48,11 @@ module _ (b : Board) (h : well_formed b ≡ true) where
   unfolding well_formed
   cells_part = and_right (setup_ok b.setup && nodes_ok b.setup b.nodes && consoles_ok b.setup b.consoles) _ h
 
-  n_at_most : b.setup.n ≤ 5
+  pub n_at_most : b.setup.n ≤ 5
   unfolding setup_ok nodes_allowed
   n_at_most = leb-true b.setup.n 5 (and_right (leb 1 b.setup.n) _ (and_left (leb 1 b.setup.n && leb b.setup.n 5) _ setup_part))
 
-  m_at_most : b.setup.m ≤ 8
+  pub m_at_most : b.setup.m ≤ 8
   unfolding setup_ok consoles_allowed nodes_allowed
   m_at_most = leb-true b.setup.m 8 (and_right (leb 1 b.setup.m) _ (and_right (leb 1 b.setup.n && leb b.setup.n 5) _ setup_part))
 

@@ -1,6 +1,7 @@
 -- Deliver (document 01, 'The steps'): what it comes to is decided in decisions/Deliver, by one console, one node and
 -- one frame.
 use Rattle.std.specs.Prelude.{ℕ}
+use Rattle.decisions.specs.Steps.{Decision}
 use Rattle.decisions.specs.Deliver.{delivered}
 use Rattle.board.specs.declared.Board.{Board}
 use Rattle.board.specs.declared.Answer.{Answer}
@@ -8,6 +9,9 @@ use Rattle.board.specs.Boards.{node_at, console_at, frame_at}
 use Rattle.board.specs.WellFormed.{well_formed}
 use Rattle.board.specs.Applied.{applied}
 
--- 'Deliver (console, node) takes the frame in that cell'
+-- 'Deliver (console, node) takes the frame in that cell'; what it comes to
+abbrev pub delivery : Board → ℕ → ℕ → Decision
+delivery b c k = delivered (well_formed b) b.setup c k (console_at b c) (node_at b k) (frame_at b c k)
+
 unfoldable pub deliver : Board → ℕ → ℕ → Answer
-deliver b c k = applied b c k (delivered (well_formed b) b.setup c k (console_at b c) (node_at b k) (frame_at b c k))
+deliver b c k = applied b c k (delivery b c k)

@@ -5,6 +5,7 @@ pub mod Answers
 pub mod Applied
 pub mod Steps
 pub mod Deliver
+pub mod Preview
 pub mod Runs
 pub mod PRuns
 pub mod UpRuns
@@ -13,4 +14,5 @@ pub mod QuietRuns
 pub mod DeadRuns
 pub mod OrderRuns
 pub mod RestartRuns
+pub mod PreviewRuns
 pub mod FormedBoards

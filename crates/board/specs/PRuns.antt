@@ -1,9 +1,10 @@
 -- The proved set of document 01, 'Runs to check by': P1 to P10 as one list, with what every step must answer and the
 -- facts that the paper states. proofs/PRunsHold.antt proves that the definitions give all of it.
-use Rattle.std.specs.Prelude.{ℕ, true, false, List, [], ◌∷◌, ◌++◌, map, replicate, take}
+use Rattle.std.specs.Prelude.{ℕ, true, false, List, [], ◌∷◌, ◌++◌, map, replicate, take, Option}
 use Rattle.parts.specs.declared.Tag.{Tag}
 use Rattle.parts.specs.declared.Frame.{Frame}
 use Rattle.parts.specs.declared.Frame.TheVariants.{Nothing, Reply, Put, Ack}
+use Rattle.parts.specs.declared.Outcome.{Outcome}
 use Rattle.parts.specs.declared.Release.TheVariants.{One}
 use Rattle.parts.specs.declared.Setup.{Setup}
 use Rattle.parts.specs.declared.Kind.TheVariants.{Write}
@@ -14,6 +15,7 @@ use Rattle.board.specs.declared.Board.{Board}
 use Rattle.board.specs.declared.Answer.{Answer}
 use Rattle.board.specs.Boards.{node_at, frame_at, fresh_board}
 use Rattle.parts.specs.Outcomes.{outcome_number, outcome_tag, outcome_value}
+use Rattle.decisions.specs.declared.refusals.Refusal.{Refusal}
 use Rattle.decisions.specs.Refusals.{refusal_number}
 use Rattle.board.specs.Steps as steps
 use Rattle.board.specs.Steps.{setup_of, smallest}
@@ -56,8 +58,11 @@ pub record PRun : Type 0 where
 -- ---- what the definitions give
 
 -- what an answer shows, in document 01's numbers
+abbrev pub said_of : Outcome → Option Refusal → Seen
+said_of o r = Said (outcome_number o) (refusal_number r) (outcome_tag o) (outcome_value o)
+
 abbrev pub said : Answer → Seen
-said a = Said (outcome_number a.outcome) (refusal_number a.refusal) (outcome_tag a.outcome) (outcome_value a.outcome)
+said a = said_of a.outcome a.refusal
 
 unfoldable pub seen : Board → Look → Seen
 seen b (Make σ) = said (steps.fresh σ)

@@ -1,9 +1,10 @@
 // Deliver: what is decided of one console, one node and one frame, done on the board.
 ghost use Rattle.std.specs.Prelude.{◌≡◌};
 ghost use Rattle.board.specs.WellFormed.{well_formed};
-ghost use Rattle.board.specs.Deliver.{deliver};
+ghost use Rattle.board.specs.Deliver.{delivery, deliver};
 
 use crate::{Answer, Board};
+use decisions::Decision;
 use decisions::delivery::delivered;
 use parts::{ConsoleId, NodeId};
 
@@ -16,13 +17,21 @@ impl Board {
     }
 
     // The same for a caller who knows whether the board is well formed (steps.rt).
+    #[tactic(auto, unfolding(crate::specs::Deliver::deliver))]
     pub fn deliver_known(self, formed: bool, c: ConsoleId, k: NodeId) -> Answer
         ensures { formed ≡ well_formed self → result ≡ deliver self c.0 k.0 }
+    {
+        let decision = self.delivery_known(formed, c, k);
+        self.apply(c, k, decision)
+    }
+
+    // What the delivery comes to.
+    pub(crate) fn delivery_known(&self, formed: bool, c: ConsoleId, k: NodeId) -> Decision
+        ensures { formed ≡ well_formed self.now → result ≡ delivery self.now c.0 k.0 }
     {
         let x = self.console_at(c);
         let y = self.node_at(k);
         let f = self.frame_at(c, k);
-        let decision = delivered(formed, self.setup, c, k, x, y, f);
-        self.apply(c, k, decision)
+        delivered(formed, self.setup, c, k, x, y, f)
     }
 }

@@ -28,10 +28,20 @@ pub struct Answer {
     pub compared: Option<Ordering>,
 }
 
+// What a delivery would answer, and how many frames would be in flight after it (document 02, Paper 8).
+#[derive(Clone, Copy)]
+pub struct Preview {
+    pub outcome: Outcome,
+    pub refusal: Option<Refusal>,
+    pub in_flight: u32,
+}
+
 mod answers;
 mod applying;
 mod checking;
+mod counting;
 mod delivery;
 mod looking;
 mod making;
+mod previewing;
 mod steps;
