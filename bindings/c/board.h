@@ -1,7 +1,7 @@
 /* The board for C, on x86-64. Link with crates/hatukeno/out/libhatukeno.a, which `rt lib` there writes.
  *
- * A board stands in BOARD_WORDS words of memory that the caller lends, and each call puts one step to it. The answer goes
- * into ANSWER_WORDS words:
+ * A board stands in BOARD_WORDS words of memory that the caller lends. A call puts a step to it (board_run a list of them,
+ * board_preview none), and the answer goes into ANSWER_WORDS words:
  *
  *   said[0]  the outcome: 0 refused, 1 done, 2 handed, 3 heard, 4 turned, 5 finished, 6 discarded
  *   said[1]  why it was refused, or 0:
@@ -15,7 +15,7 @@
  *   said[2], said[3], said[4]  the tag's ts and console, and the value, if it has finished; else 0
  *   said[5]  how the tag of a reply that was taken in compares with the best the console had before, (0, 0) for the first
  *            reply of an asking: 1 lower, 2 same, 3 higher; 0 for a refused step and one that takes no reply in. A read that
- *            a reply finishes (release 2) says it of that reply
+ *            a reply finishes (release 2) says it of that reply. Of a preview: see below
  *   said[6]  the tag's life, if it has finished; else 0
  *
  * If the step is accepted the next board is written back; if it is refused nothing of the lent board is written.
@@ -31,19 +31,24 @@
  * fresh board each life is 0; the last is 1000. A write's tag carries the life of its console, so that no two writes of
  * a console have one tag. Tags go by the ts, then by the console, then by the life.
  *
+ * board_preview is no step: the board is only read. It says what board_deliver would answer, in the same words but for
+ * said[5], which has the number of frames in flight after the delivery: the cells that hold a frame then, all of them; if it
+ * is refused those that hold one now, and if it is refused with 1 then 0.
+ *
  * board_run puts a whole list of steps to a board, one after the other: STEP_WORDS words for a step, its number (below) and
  * its two numbers in the order in which the step's own call takes them; a second number that the step does not take is
  * passed over. A step whose number none has is refused with 12, on any board. `said` gets ANSWER_WORDS words for each step,
  * and a refused step leaves the board as it was, a refused fresh too. STEP_FRESH makes release 1, on a board of release 2 too.
  *
- * A call returns 0 if the steps were put to the board, refused or not. If `words` is shorter than a board it returns 1, if
- * `said` is shorter than the answers it returns 2, if `steps_len` is no multiple of STEP_WORDS it returns 3, and then nothing
- * is written. Lengths are in words; memory beyond a board, or beyond the answers, is never written. The pointers must be
- * valid for their lengths, the lent memories must not overlap, and nobody else may touch them during the call.
+ * A call returns 0 if the steps were put to the board, refused or not, or the preview was given. If `words` is shorter
+ * than a board it returns 1, if `said` is shorter than the answers it returns 2, if `steps_len` is no multiple of
+ * STEP_WORDS it returns 3, and then nothing is written. Lengths are in words; memory beyond a board, or beyond the answers,
+ * is never written. The pointers must be valid for their lengths, the lent memories must not overlap, and nobody else may
+ * touch them during the call.
  *
  * Any words whatever may be lent: if no board is written as they are, or it is not well formed, every step but a fresh
- * is refused with 1, and nothing is written. So a flipped bit is refused unless it makes the words of another
- * well-formed board. The words of a board are
+ * is refused with 1, and nothing is written; a preview says the same. So a flipped bit is refused unless it makes the
+ * words of another well-formed board. The words of a board are
  *
  *   0, 1     n and m
  *   2        the release, 1 or 2
@@ -96,6 +101,7 @@ uint32_t board_node_down(uint32_t *words, size_t words_len, uint32_t *said, size
 uint32_t board_console_down(uint32_t *words, size_t words_len, uint32_t *said, size_t said_len, uint32_t console);
 uint32_t board_node_up(uint32_t *words, size_t words_len, uint32_t *said, size_t said_len, uint32_t node);
 uint32_t board_restart(uint32_t *words, size_t words_len, uint32_t *said, size_t said_len, uint32_t console);
+uint32_t board_preview(const uint32_t *words, size_t words_len, uint32_t *said, size_t said_len, uint32_t console, uint32_t node);
 uint32_t board_run(uint32_t *words, size_t words_len, const uint32_t *steps, size_t steps_len, uint32_t *said, size_t said_len);
 
 #ifdef __cplusplus

@@ -1,6 +1,6 @@
-/* Console 1 of 2 writes 7 on three nodes; nodes 0 and 2 are a majority, so the write finishes without node 1, which then goes down
- * and comes back. Then the same write after a restart of its console, and a read under release 2. Ends with 0 if every
- * answer is the one that is written here. */
+/* Console 1 of 2 writes 7 on three nodes; nodes 0 and 2 are a majority, so the write finishes without node 1, which then
+ * goes down and comes back. Then the same write after a restart of its console, previews, and a read under release 2.
+ * Ends with 0 if every answer is the one that is written here. */
 #include "board.h"
 
 static uint32_t words[BOARD_WORDS];
@@ -65,6 +65,22 @@ static int again(void)
     return write_7(1);
 }
 
+/* a delivery seen before it is made: there is no frame yet; then a read has three in flight, of which one is handed on */
+static int ahead(void)
+{
+    if (board_fresh(words, BOARD_WORDS, said, ANSWER_WORDS, 3, 2) != 0 || said[0] != 1)
+        return 19;
+    if (board_preview(words, BOARD_WORDS, said, ANSWER_WORDS, 0, 1) != 0 || said[1] != 8 || said[5] != 0)
+        return 20;
+    if (board_begin_read(words, BOARD_WORDS, said, ANSWER_WORDS, 0) != 0 || said[0] != 1)
+        return 21;
+    /* twice the same: the board is only read */
+    for (int i = 0; i < 2; i++)
+        if (board_preview(words, BOARD_WORDS, said, ANSWER_WORDS, 0, 1) != 0 || said[0] != 2 || said[5] != 3)
+            return 22;
+    return 0;
+}
+
 /* under release 2 a read of a fresh board finishes with its second reply, whose tag is the same as the first's */
 static int quiet(void)
 {
@@ -97,5 +113,7 @@ int main(void)
     wrong = list();
     if (wrong == 0)
         wrong = again();
+    if (wrong == 0)
+        wrong = ahead();
     return wrong != 0 ? wrong : quiet();
 }

@@ -75,6 +75,20 @@
 //! assert_eq!(board.restart(0), Err(Refusal(15)));
 //! # Ok::<(), Refusal>(())
 //! ```
+//!
+//! A delivery can be seen before it is made. A read of three nodes has three frames in flight; the ask is handed on, and
+//! its reply, once it is heard, is gone:
+//!
+//! ```
+//! # use hatukeno::{Board, Outcome, Preview, Refusal};
+//! let mut board = Board::fresh(3, 2)?;
+//! board.begin_read(0)?;
+//! assert_eq!(board.preview(0, 1), Preview { outcome: Ok(Outcome::Handed), in_flight: 3 });
+//! board.deliver(0, 1)?;
+//! assert_eq!(board.preview(0, 1), Preview { outcome: Ok(Outcome::Heard), in_flight: 2 });
+//! assert_eq!(board.preview(1, 0), Preview { outcome: Err(Refusal(8)), in_flight: 3 });
+//! # Ok::<(), Refusal>(())
+//! ```
 
 use std::error::Error;
 use std::fmt::{self, Display, Formatter};
@@ -86,7 +100,7 @@ pub const BOARD_WORDS: usize = 4 + 5 * 4 + 8 * 8 + 40 * 4;
 pub const LAYOUT: u32 = 2;
 
 /// The words of an answer: the outcome's number, the refusal, the tag's ts and console, the value, the comparison's
-/// number, the tag's life.
+/// number (in a preview the frames in flight), the tag's life.
 const ANSWER_WORDS: usize = 7;
 
 /// The words of a step in a list: its number and its two numbers.
@@ -171,6 +185,17 @@ pub struct Answer {
     pub compared: Compared,
 }
 
+/// What a delivery would do (see [`Board::preview`]).
+#[derive(Clone, Copy, Debug, PartialEq, Eq)]
+pub struct Preview {
+    /// Its outcome, with the tag and the value of an operation that it would finish; or the question that would refuse
+    /// it.
+    pub outcome: Result<Outcome, Refusal>,
+    /// The frames in flight after it: all cells that hold a frame then, whoever it is for. Under a refusal those that
+    /// hold one now, but none under refusal 1.
+    pub in_flight: u32,
+}
+
 /// A step of a list. A fresh makes a board under release 1, on a board of release 2 too.
 #[derive(Clone, Copy, Debug, PartialEq, Eq)]
 pub enum Step {
@@ -218,6 +243,7 @@ extern "C" {
     fn board_console_down(words: *mut u32, words_len: usize, said: *mut u32, said_len: usize, console: u32) -> u32;
     fn board_node_up(words: *mut u32, words_len: usize, said: *mut u32, said_len: usize, node: u32) -> u32;
     fn board_restart(words: *mut u32, words_len: usize, said: *mut u32, said_len: usize, console: u32) -> u32;
+    fn board_preview(words: *const u32, words_len: usize, said: *mut u32, said_len: usize, console: u32, node: u32) -> u32;
     fn board_run(words: *mut u32, words_len: usize, steps: *const u32, steps_len: usize, said: *mut u32, said_len: usize) -> u32;
 }
 
@@ -275,6 +301,21 @@ impl Board {
     /// with 15 if the console is up, and with 16 if its life is 1,000 already.
     pub fn restart(&mut self, console: u32) -> Result<Answer, Refusal> {
         self.call(|w, wl, s, sl| unsafe { board_restart(w, wl, s, sl, console) })
+    }
+
+    /// What delivering the frame between the console and the node would do: what it would answer, and how many frames
+    /// would be in flight after it. The board stays as it is.
+    pub fn preview(&self, console: u32, node: u32) -> Preview {
+        let mut said = [0; ANSWER_WORDS];
+        let (w, s) = (self.words.as_ptr(), said.as_mut_ptr());
+        let short = unsafe { board_preview(w, BOARD_WORDS, s, ANSWER_WORDS, console, node) };
+        assert_eq!(short, 0, "both arrays have the library's lengths");
+        // Where an answer has the comparison.
+        let in_flight = std::mem::take(&mut said[5]);
+        Preview {
+            outcome: answer(&said).map(|answer| answer.outcome),
+            in_flight,
+        }
     }
 
     /// Puts the steps to the board, one after the other, and gives what each answered. A refused step leaves the board as it
@@ -411,6 +452,18 @@ mod tests {
     fn quiet_read(board: &mut Board) -> Answer {
         board.begin_read(0).unwrap();
         deliver_all(board, 0, &[0, 0, 2, 2])
+    }
+
+    #[test]
+    fn short_memory_is_refused_by_a_preview_too() {
+        let words = [0; BOARD_WORDS];
+        let mut said = [9; ANSWER_WORDS + 1];
+        let (w, s) = (words.as_ptr(), said.as_mut_ptr());
+        assert_eq!(unsafe { board_preview(w, BOARD_WORDS - 1, s, ANSWER_WORDS, 0, 0) }, 1);
+        assert_eq!(unsafe { board_preview(w, BOARD_WORDS, s, ANSWER_WORDS - 1, 0, 0) }, 2);
+        assert_eq!(said, [9; ANSWER_WORDS + 1]);
+        assert_eq!(unsafe { board_preview(w, BOARD_WORDS, s, ANSWER_WORDS + 1, 0, 0) }, 0);
+        assert_eq!(said, [0, 1, 0, 0, 0, 0, 0, 9]);
     }
 
     #[test]
@@ -601,6 +654,92 @@ mod tests {
             let mut words = *Board::fresh(3, 2).unwrap().words();
             (words[NODES + 1], words[NODES + 2]) = (1, owner);
             assert_eq!(Board::from_words(words).begin_read(0), said);
+        }
+    }
+
+    /// What a delivery did on a copy, and the cells that hold a frame there.
+    fn on_a_copy(board: &Board, console: u32, node: u32) -> Preview {
+        let mut copy = board.clone();
+        let outcome = copy.deliver(console, node).map(|answer| answer.outcome);
+        let frames = copy.words[CELLS..].iter().step_by(4).filter(|&&frame| frame != 0).count();
+        Preview {
+            outcome,
+            in_flight: frames as u32,
+        }
+    }
+
+    /// After each of the steps, between each console and each node and the ones beside the last.
+    fn previews_are_what_copies_do(mut board: Board, steps: &[Step]) {
+        for step in steps {
+            board.run(&[*step])[0].unwrap();
+            let (n, m) = (board.words[0], board.words[1]);
+            for (console, node) in (0..=m).flat_map(|c| (0..=n).map(move |k| (c, k))) {
+                assert_eq!(board.preview(console, node), on_a_copy(&board, console, node));
+            }
+        }
+    }
+
+    /// The console's frame to each of the nodes, one after the other.
+    fn deliveries(console: u32, nodes: &[u32]) -> impl Iterator<Item = Step> + '_ {
+        nodes.iter().map(move |&node| Step::Deliver { console, node })
+    }
+
+    #[test]
+    fn a_preview_is_what_delivering_on_a_copy_does() {
+        let mut steps = vec![Step::BeginRead { console: 0 }, Step::BeginWrite { console: 1, value: 7 }];
+        steps.extend(deliveries(1, &[0, 0, 2, 2, 0, 0, 2, 2, 1]));
+        steps.extend([Step::NodeDown { node: 1 }, Step::ConsoleDown { console: 0 }]);
+        previews_are_what_copies_do(Board::fresh(3, 2).unwrap(), &steps);
+
+        let mut steps = vec![Step::ConsoleDown { console: 1 }, Step::Restart { console: 1 }];
+        steps.push(Step::BeginWrite { console: 1, value: 70000 });
+        steps.extend(deliveries(1, &[0, 0, 1, 1, 0, 0, 1, 1]));
+        steps.push(Step::BeginRead { console: 2 });
+        steps.extend(deliveries(2, &[0, 0, 1, 1]));
+        previews_are_what_copies_do(Board::fresh_under(2, 3, Release::Two).unwrap(), &steps);
+    }
+
+    #[test]
+    fn a_preview_counts_the_frames_after_the_delivery() {
+        let mut board = Board::fresh(3, 2).unwrap();
+        let foresee = |board: &Board, node, outcome, in_flight| {
+            let before = board.clone();
+            assert_eq!(board.preview(1, node), Preview { outcome, in_flight });
+            assert_eq!(*board, before);
+        };
+        foresee(&board, 0, Err(Refusal(8)), 0);
+        board.begin_write(1, 7).unwrap();
+        board.begin_read(0).unwrap();
+        foresee(&board, 0, Ok(Outcome::Handed), 6);
+        foresee(&board, 3, Err(Refusal(5)), 6);
+        deliver_all(&mut board, 1, &[0]);
+        foresee(&board, 0, Ok(Outcome::Heard), 5);
+        deliver_all(&mut board, 1, &[0, 2]);
+        foresee(&board, 0, Err(Refusal(8)), 5);
+        foresee(&board, 2, Ok(Outcome::Turned), 6);
+        deliver_all(&mut board, 1, &[2, 0, 0, 2]);
+        let tag = Tag {
+            ts: 1,
+            console: 1,
+            life: 0,
+        };
+        foresee(&board, 2, Ok(Outcome::Finished { tag, value: 7 }), 4);
+    }
+
+    #[test]
+    fn a_preview_of_a_damaged_board_counts_nothing() {
+        let mut words = *Board::fresh(3, 2).unwrap().words();
+        words[CELLS] = 1;
+        assert_eq!(Board::from_words(words).preview(0, 0).in_flight, 1);
+        // Two that are a board's words, though not a well-formed one's, and one that is none's.
+        for (place, number) in [(CONSOLES + MARK, 1), (CONSOLES + LIFE, 1001), (VERSION, 1)] {
+            let mut words = words;
+            words[place] = number;
+            let refused = Preview {
+                outcome: Err(Refusal(1)),
+                in_flight: 0,
+            };
+            assert_eq!(Board::from_words(words).preview(0, 0), refused);
         }
     }
 

@@ -7,9 +7,11 @@ use native.Mathlib.Omega.{arith}
 use borrow.Author.Tests.{leb-true, leb-false, le-leb, lt-leb, ne_eqb, eq-eqb}
 use lib.Dec.{eqb, leb}
 use Rattle.board.specs.declared.Answer.{Answer}
+use Rattle.board.specs.declared.Preview.{Preview}
 use Rattle.layout.specs.Layout.{board_words}
 use Rattle.hatukeno.specs.Lists.{list_short_by}
 use Rattle.hatukeno.specs.Calls.{answer_words, put_answer, kept, returned_by, short_by, code, Called}
+use Rattle.hatukeno.specs.Previews.{put_preview, Previewed}
 use Rattle.std.specs.Prelude.{Err}
 use Rattle.hatukeno.specs.declared.lengths.Short.{Short}
 use Rattle.hatukeno.specs.declared.lengths.Short.TheVariants.{Board, Answers, Steps}
@@ -67,15 +69,22 @@ short_number Steps e = omega (arith, e)
 
 -- ---- calls
 
+-- whether anything is written, by what is returned
+not_written : (w s : List ℕ) (r : ℕ) → r ≡ code w s → (r ≡ 0 → ⊥) → eqb (code w s) 0 ≡ false
+not_written w s r e n = ne_eqb (code w s) 0 (λ d. n (e ∙ d))
+
+is_written : (w s : List ℕ) → 0 ≡ code w s → eqb (code w s) 0 ≡ true
+is_written w s e = eq-eqb (code w s) 0 (sym e)
+
 -- if memory is short, nothing is written
 pub not_called : (a : Answer) (w s : List ℕ) (r : ℕ) → r ≡ code w s → (r ≡ 0 → ⊥) → Called a w s r w s
-not_called a w s r e n = record { returned = e; board = rw off; answer = rw off }
-  where
-    off : eqb (code w s) 0 ≡ false
-    off = ne_eqb (code w s) 0 (λ d. n (e ∙ d))
+not_called a w s r e n = record { returned = e; board = rw (not_written w s r e n); answer = rw (not_written w s r e n) }
 
-pub called : (a : Answer) (w s : List ℕ) (r : ℕ) → r ≡ code w s → r ≡ 0 → (w' s' : List ℕ) → w' ≡ kept w a → s' ≡ put_answer s 0 a → Called a w s 0 w' s'
-called a w s r e z w' s' k t = record { returned = sym z ∙ e; board = k ∙ rw on; answer = t ∙ rw on }
-  where
-    on : eqb (code w s) 0 ≡ true
-    on = eq-eqb (code w s) 0 (sym e ∙ z)
+pub called : (a : Answer) (w s : List ℕ) → 0 ≡ code w s → (w' s' : List ℕ) → w' ≡ kept w a → s' ≡ put_answer s 0 a → Called a w s 0 w' s'
+called a w s e w' s' k t = record { returned = e; board = k ∙ rw (is_written w s e); answer = t ∙ rw (is_written w s e) }
+
+pub not_previewed : (p : Preview) (w s : List ℕ) (r : ℕ) → r ≡ code w s → (r ≡ 0 → ⊥) → Previewed p w s r s
+not_previewed p w s r e n = record { returned = e; answer = rw (not_written w s r e n) }
+
+pub previewed : (p : Preview) (w s : List ℕ) → 0 ≡ code w s → (s' : List ℕ) → s' ≡ put_preview s p → Previewed p w s 0 s'
+previewed p w s e s' t = record { returned = e; answer = t ∙ rw (is_written w s e) }

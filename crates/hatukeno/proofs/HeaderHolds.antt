@@ -1,12 +1,13 @@
 -- The words are those of the header, by computation.
 use mathlib.Core.Path.{◌≡◌, refl}
 use Rattle.verbs.specs.Verbs.{step_of}
-use Rattle.hatukeno.specs.Calls.{answer_fields}
+use Rattle.hatukeno.specs.Calls.{said_fields, answer_fields}
+use Rattle.hatukeno.specs.Previews.{preview_fields}
 use Rattle.hatukeno.specs.Lists.{step_at}
 use Rattle.hatukeno.specs.Header.{as_written, in_the_header, TwoSteps}
 
 pub header_holds : as_written ≡ in_the_header
-unfolding as_written in_the_header answer_fields
+unfolding as_written in_the_header said_fields answer_fields preview_fields
 header_holds = refl
 
 pub two_steps_hold : TwoSteps

@@ -4,6 +4,7 @@ use Rattle.std.specs.Prelude.{ℕ, cond, List, [], ◌∷◌, ◌≡◌, eqb, le
 use Rattle.std.proofs.lemmas.List.Edits.{sets}
 use Rattle.parts.specs.Outcomes.{accepted, outcome_number, outcome_tag, outcome_value, compared_number}
 use Rattle.decisions.specs.Refusals.{refusal_number}
+use Rattle.parts.specs.declared.Outcome.{Outcome}
 use Rattle.board.specs.declared.Answer.{Answer}
 use Rattle.layout.specs.Layout.{board_words, encoded}
 use Rattle.hatukeno.specs.declared.lengths.Short.{Short}
@@ -13,16 +14,20 @@ use Rattle.hatukeno.specs.declared.lengths.Short.TheVariants.{Board, Answers, St
 abbrev pub answer_words : ℕ
 answer_words = 7
 
--- outcome, refusal, the tag's ts and console, value, comparison, and the tag's life
-unfoldable pub answer_fields : Answer → List ℕ
-answer_fields a =
-    outcome_number a.outcome
-    ∷ refusal_number a.refusal
-    ∷ (outcome_tag a.outcome).ts ∷ (outcome_tag a.outcome).console
-    ∷ outcome_value a.outcome
-    ∷ compared_number a.compared
-    ∷ (outcome_tag a.outcome).life
+-- outcome, refusal, the tag's ts and console, value, a sixth word, and the tag's life
+unfoldable pub said_fields : Outcome → ℕ → ℕ → List ℕ
+said_fields o r x =
+    outcome_number o
+    ∷ r
+    ∷ (outcome_tag o).ts ∷ (outcome_tag o).console
+    ∷ outcome_value o
+    ∷ x
+    ∷ (outcome_tag o).life
     ∷ []
+
+-- an answer says sixth how a reply compared
+unfoldable pub answer_fields : Answer → List ℕ
+answer_fields a = said_fields a.outcome (refusal_number a.refusal) (compared_number a.compared)
 
 -- in the words from p on
 unfoldable pub put_answer : List ℕ → ℕ → Answer → List ℕ

@@ -1,8 +1,8 @@
--- What bindings/c/board.h says of the words of an answer, and of those of a step in a list. Words that changed places in
--- definition and code would meet every contract; these lists hold them to the header.
-use Rattle.std.specs.Prelude.{ℕ, List, [], ◌∷◌, ◌≡◌, Some}
+-- What bindings/c/board.h says of the words of an answer, of a preview's and of those of a step in a list. Words that
+-- changed places in definition and code would meet every contract; these lists hold them to the header.
+use Rattle.std.specs.Prelude.{ℕ, List, [], ◌∷◌, ◌≡◌, None, Some}
 use Rattle.parts.specs.declared.Tag.{Tag}
-use Rattle.parts.specs.declared.Outcome.TheVariants.{Done, Handed, Finished}
+use Rattle.parts.specs.declared.Outcome.TheVariants.{Refused, Done, Handed, Finished}
 use Rattle.std.specs.declared.cmp.Ordering.TheVariants.{Less, Equal, Greater}
 use Rattle.decisions.specs.declared.refusals.Refusal.TheVariants.{NodeIsDown}
 use Rattle.board.specs.declared.Board.{Board}
@@ -11,6 +11,7 @@ use Rattle.board.specs.Boards.{no_board}
 use Rattle.board.specs.Deliver.{deliver}
 use Rattle.board.specs.Steps.{begin_write}
 use Rattle.hatukeno.specs.Calls.{answer_fields}
+use Rattle.hatukeno.specs.Previews.{preview_fields}
 use Rattle.hatukeno.specs.Lists.{step_at}
 
 -- numbers that all differ
@@ -27,6 +28,8 @@ as_written =
     ∷ answer_fields (answer_with (Some Less) (Finished tag 42) no_board)
     ∷ answer_fields (answer_with (Some Equal) (Finished tag 42) no_board)
     ∷ answer_fields (answer_with (Some Greater) (Finished tag 42) no_board)
+    ∷ preview_fields (record { outcome = Finished tag 42; refusal = None; in_flight = 40 })
+    ∷ preview_fields (record { outcome = Refused; refusal = Some NodeIsDown; in_flight = 40 })
     ∷ []
 
 -- what the header says
@@ -39,6 +42,8 @@ in_the_header =
     ∷ (5 ∷ 0 ∷ 21 ∷ 6 ∷ 42 ∷ 1 ∷ 8 ∷ [])
     ∷ (5 ∷ 0 ∷ 21 ∷ 6 ∷ 42 ∷ 2 ∷ 8 ∷ [])
     ∷ (5 ∷ 0 ∷ 21 ∷ 6 ∷ 42 ∷ 3 ∷ 8 ∷ [])
+    ∷ (5 ∷ 0 ∷ 21 ∷ 6 ∷ 42 ∷ 40 ∷ 8 ∷ [])
+    ∷ (0 ∷ 9 ∷ 0 ∷ 0 ∷ 0 ∷ 40 ∷ 0 ∷ [])
     ∷ []
 
 -- 'its number and its two numbers': console 1 begins a write of 7, and its frame is delivered to node 0

@@ -1,4 +1,5 @@
 -- The calls on a board in words of lent memory.
 pub mod Calls
+pub mod Previews
 pub mod Lists
 pub mod Header

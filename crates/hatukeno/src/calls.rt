@@ -6,14 +6,31 @@ ghost use Rattle.board.specs.Steps.{setup_of, fresh, begin_read, begin_write, no
 ghost use Rattle.board.specs.Deliver.{deliver};
 ghost use Rattle.layout.specs.Layout.{board_words, encoded};
 ghost use Rattle.layout.specs.Standing.{decoded};
-ghost use Rattle.hatukeno.specs.Calls.{answer_words, put_answer, Called};
+ghost use Rattle.hatukeno.specs.Calls.{answer_words, said_fields, put_answer, Called};
 
 use crate::lengths::{ANSWER_WORDS, STEP_WORDS, fits};
 use board::{Answer, Board};
 use layout::reading::decode;
 use layout::writing::{encode, put_words};
 use parts::outcomes::compared_number;
-use parts::{ConsoleId, NodeId, Release};
+use parts::{ConsoleId, NodeId, Outcome, Release};
+
+// The words of an answer, or of a preview: what is sixth differs.
+#[tactic(auto, unfolding(crate::specs::Calls::said_fields))]
+pub(crate) fn said_fields(outcome: Outcome, refusal: u32, sixth: u32) -> [u32; ANSWER_WORDS]
+    ensures { result ≡ said_fields outcome refusal sixth }
+{
+    let tag = outcome.tag();
+    [
+        outcome.number(),
+        refusal,
+        tag.ts,
+        u32::from(tag.console),
+        outcome.value(),
+        sixth,
+        u32::from(tag.life),
+    ]
+}
 
 // Writes the answer into seven words from p on, as put_words takes words and place. The caller has seen that they are
 // there.
@@ -22,17 +39,8 @@ pub(crate) fn put_answer(s: &mut [u32], p: usize, a: Answer)
     requires { p + answer_words ≤ length s.old }
     ensures { s.new ≡ put_answer s.old p a }
 {
-    let tag = a.outcome.tag();
-    let fields = [
-        a.outcome.number(),
-        a.refusal_number(),
-        tag.ts,
-        u32::from(tag.console),
-        a.outcome.value(),
-        compared_number(a.compared),
-        u32::from(tag.life),
-    ];
-    put_words(s, p, &fields);
+    let sixth = compared_number(a.compared);
+    put_words(s, p, &said_fields(a.outcome, a.refusal_number(), sixth));
 }
 
 // Writes the answer a of a step, and the next board unless the step was refused; nothing if memory is short.
