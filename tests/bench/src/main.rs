@@ -14,6 +14,7 @@ mod lines;
 mod loaded;
 mod plain;
 mod plain_lines;
+mod previews;
 mod runs;
 mod side;
 mod tables;

@@ -366,6 +366,11 @@ impl<const CHECKED: bool> Board<CHECKED> {
         self.cells[from..from + self.n as usize].fill(x);
     }
 
+    /// The cells that hold a frame.
+    pub fn frames(&self) -> u32 {
+        self.cells.iter().map(|x| u32::from(x.frame != NOTHING)).sum()
+    }
+
     fn majority(&self) -> u32 {
         self.n / 2 + 1
     }

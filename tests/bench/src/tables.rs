@@ -1,5 +1,6 @@
 //! The tables of single steps and of whole runs.
 use crate::loaded::{Again, Before, Now};
+use crate::previews::time_previews;
 use crate::runs::{agree_under_two, damaged, made_run, Row, Run, BOARDS, DAMAGED, STEPS};
 use crate::side::{Plain, Unasked};
 use crate::tags;
@@ -15,6 +16,7 @@ const RUN_STEPS: usize = 20_000;
 pub fn time_steps(seed: u64, rounds: usize) {
     let (rows, runs) = drawn(seed);
     time_kinds(&rows, rounds);
+    time_previews(&rows, rounds);
     time_runs(&runs, rounds);
     time_before(&rows, &runs, rounds);
     let deliveries = rows.iter().find(|row| row.name == "deliver").expect("the row of all deliveries");

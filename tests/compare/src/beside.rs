@@ -1,6 +1,7 @@
 //! Puts steps to the library and to the model beside it.
 use crate::faults::Faulty;
 use crate::model::{Answer, Compared, Model, Outcome, Release, Step};
+use crate::previews::foresee;
 use crate::words::{self, Words};
 use hatukeno::{Board, Refusal};
 
@@ -44,7 +45,7 @@ pub fn put(board: &mut Board, step: Step) -> Said {
     }
 }
 
-fn same(a: hatukeno::Outcome, b: Outcome) -> bool {
+pub fn same(a: hatukeno::Outcome, b: Outcome) -> bool {
     match (a, b) {
         (hatukeno::Outcome::Done, Outcome::Done)
         | (hatukeno::Outcome::Handed, Outcome::Handed)
@@ -77,9 +78,10 @@ fn alike(library: &Said, model: &Answer) -> bool {
     }
 }
 
-/// Puts the step to both, and gives the model's answer.
+/// Puts the step to both, after a preview, and gives the model's answer.
 pub fn both(board: &mut Board, model: &mut Model, step: Step, faulty: Faulty) -> Agreed<Answer> {
     let (expected, next) = faulty.step(model, step);
+    foresee(board, model, step, (expected, &next), faulty)?;
     let after = if expected.outcome.is_ok() {
         words::write(&next)
     } else {

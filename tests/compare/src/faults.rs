@@ -2,6 +2,7 @@
 //! the model: it changes what the model is given or what it answers.
 mod early;
 mod lines;
+mod previews;
 mod restarts;
 mod rules;
 mod standing;
@@ -9,12 +10,13 @@ mod steps;
 mod taken;
 mod withdrawn;
 
-use crate::model::{Answer, Model, Step};
+use crate::model::{Answer, Model, Preview, Step};
 use crate::rules::Rules;
 use crate::schedule::{self, Line};
 use crate::words::{self, Words};
 use early::*;
 use lines::*;
+use previews::*;
 pub use restarts::*;
 use rules::*;
 use standing::*;
@@ -34,6 +36,8 @@ enum Wraps {
     Board(fn(&mut Model)),
     /// A step: it answers something else, or leaves another board.
     Step(fn(&mut Taken)),
+    /// A preview: it gives something else.
+    Preview(fn(&mut Foreseen)),
     /// The words that a board is read from: they are taken for others.
     Words(fn(&mut Words)),
     /// A fresh in a list, on the first of these boards.
@@ -193,6 +197,19 @@ faults! {
     Words(beside_ask_unread),
     Words(beside_ack_unread),
     Words(tagged_all_zero),
+    // Of Paper 8: which frames a preview counts, when, and under which refusals.
+    Preview(counted_before),
+    Preview(pairs_counted),
+    Preview(row_counted_once),
+    Preview(own_counted),
+    Preview(only_to_nodes),
+    Preview(only_waited_for),
+    Preview(only_of_up_nodes),
+    Preview(only_of_up_consoles),
+    Preview(counted_under_1),
+    Preview(none_under_8),
+    Preview(none_if_refused),
+    Preview(frame_counted_out),
 }
 
 /// The model with a fault round it, or as it is.
@@ -225,6 +242,15 @@ impl Faulty {
             Some(Wraps::Step(change)) => Taken::changed(board, step, change),
             Some(Wraps::Board(_)) => self.taken_for(board).step(step),
             _ => board.step(step),
+        }
+    }
+
+    /// The preview of a delivery that answered so and left this board.
+    pub fn preview(self, before: &Model, pair: (u32, u32), (answer, after): (Answer, &Model)) -> Preview {
+        let preview = Preview::of(answer, after);
+        match self.wraps() {
+            Some(Wraps::Preview(change)) => Foreseen::changed(before, pair, after, preview, change),
+            _ => preview,
         }
     }
 

@@ -3,6 +3,7 @@
 use crate::beside::{both, expect, listed, Agreed};
 use crate::faults::Faulty;
 use crate::model::{Answer, Model, Step};
+use crate::previews;
 use crate::words::Words;
 use hatukeno::Board;
 
@@ -49,6 +50,7 @@ impl Lent {
             Some(model) => both(&mut self.board, model, step, self.faulty),
             None => {
                 let (refused, words) = (Answer::plain(Err(1)), *self.board.words());
+                previews::of_no_board(&self.board, step)?;
                 expect(&mut self.board, step, refused, &words)?;
                 Ok(refused)
             }

@@ -20,6 +20,7 @@ mod library;
 mod lives;
 mod marks;
 mod model;
+mod previews;
 mod reads;
 mod reboots;
 mod releases;

@@ -1,5 +1,5 @@
-//! The board as document 01 and Papers 2, 3, 4, 6 and 7 say it, in sets and maps: what it is, when it is well formed,
-//! the questions put before each step, and the steps. Nothing here is shared with the library.
+//! The board as document 01 and Papers 2, 3, 4, 6, 7 and 8 say it, in sets and maps: what it is, when it is well formed,
+//! the questions put before each step, the steps, and what a preview gives. Nothing here is shared with the library.
 pub use common::{Kind, State, Step};
 use std::cmp::Ordering;
 use std::collections::{BTreeMap, BTreeSet};
@@ -488,5 +488,21 @@ impl Model {
         let idle = Console::at_rest(State::Idle, self.consoles[&c].life);
         let x = self.consoles.insert(c, idle).expect("question 4 was asked");
         Outcome::Finished(x.best, x.value)
+    }
+}
+
+/// What a preview gives (Paper 8): the outcome with tag and value, or the refusal, and the frames in flight after it.
+#[derive(Clone, Copy, Debug, PartialEq, Eq)]
+pub struct Preview {
+    pub outcome: Result<Outcome, u32>,
+    pub in_flight: u32,
+}
+
+impl Preview {
+    /// Of a delivery that answered so on a copy: the cells that hold a frame there, 0 under refusal 1.
+    pub fn of(answer: Answer, copy: &Model) -> Preview {
+        let outcome = answer.outcome;
+        let in_flight = if outcome == Err(1) { 0 } else { copy.cells.len() as u32 };
+        Preview { outcome, in_flight }
     }
 }
