@@ -52,9 +52,17 @@ module _ (b : Board) (h : well_formed b ≡ true) where
   unfolding setup_ok nodes_allowed
   n_at_most = leb-true b.setup.n 5 (and_right (leb 1 b.setup.n) _ (and_left (leb 1 b.setup.n && leb b.setup.n 5) _ setup_part))
 
+  pub n_at_least : 1 ≤ b.setup.n
+  unfolding setup_ok nodes_allowed
+  n_at_least = leb-true 1 b.setup.n (and_left (leb 1 b.setup.n) _ (and_left (leb 1 b.setup.n && leb b.setup.n 5) _ setup_part))
+
   pub m_at_most : b.setup.m ≤ 8
   unfolding setup_ok consoles_allowed nodes_allowed
   m_at_most = leb-true b.setup.m 8 (and_right (leb 1 b.setup.m) _ (and_right (leb 1 b.setup.n && leb b.setup.n 5) _ setup_part))
+
+  pub m_at_least : 1 ≤ b.setup.m
+  unfolding setup_ok consoles_allowed nodes_allowed
+  m_at_least = leb-true 1 b.setup.m (and_left (leb 1 b.setup.m) _ (and_right (leb 1 b.setup.n && leb b.setup.n 5) _ setup_part))
 
   -- ---- each part passes its clause
 

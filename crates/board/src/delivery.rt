@@ -1,10 +1,11 @@
 // Deliver: what is decided of one console, one node and one frame, done on the board.
 ghost use Rattle.std.specs.Prelude.{◌≡◌};
 ghost use Rattle.board.specs.WellFormed.{well_formed};
-ghost use Rattle.board.specs.Deliver.{delivery, deliver};
+ghost use Rattle.board.specs.Deliver.{delivery, deliver, deliverable};
 
 use crate::{Answer, Board};
 use decisions::Decision;
+use decisions::accepting::is_accepted;
 use decisions::delivery::delivered;
 use parts::{ConsoleId, NodeId};
 
@@ -23,6 +24,21 @@ impl Board {
     {
         let decision = self.delivery_known(formed, c, k);
         self.apply(c, k, decision)
+    }
+
+    // Whether the frame can be delivered without refusal, for a caller who knows whether the board is well formed.
+    pub fn is_deliverable_known(&self, formed: bool, c: ConsoleId, k: NodeId) -> bool
+        ensures { formed ≡ well_formed self.now → result ≡ deliverable self.now c.0 k.0 }
+    {
+        is_accepted(
+            formed,
+            self.setup,
+            c,
+            k,
+            self.console_at(c),
+            self.node_at(k),
+            self.frame_at(c, k),
+        )
     }
 
     // What the delivery comes to.

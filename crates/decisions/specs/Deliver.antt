@@ -1,7 +1,7 @@
 -- Deliver (document 01, 'The steps'), as a decision: what becomes of console c, which is x, of node k, which is y, and of their cell,
 -- which holds f, on a board that was made under the setup σ. One definition for each kind of frame. Only a reply that is taken in says how its tag compared
 -- (document 02, Paper 3), and it may finish a read early (Paper 4). An ask or a put of a down console is withdrawn (Paper 6).
-use Rattle.std.specs.Prelude.{ℕ, Bool, cond, not, ◌&&◌, [], ◌∷◌, ltb, Option, None, Some, Err}
+use Rattle.std.specs.Prelude.{ℕ, Bool, false, cond, not, ◌&&◌, [], ◌∷◌, ltb, Option, None, Some, Ok, Err}
 use Rattle.std.specs.declared.cmp.Ordering.{Ordering}
 use Rattle.parts.specs.declared.Tag.{Tag}
 use Rattle.parts.specs.declared.Frame.{Frame}
@@ -11,6 +11,7 @@ use Rattle.parts.specs.declared.State.TheVariants.{Idle}
 use Rattle.parts.specs.declared.Console.{Console}
 use Rattle.parts.specs.declared.Setup.{Setup}
 use Rattle.parts.specs.declared.Outcome.TheVariants.{Handed, Heard, Turned, Finished, Discarded}
+use Rattle.parts.specs.Outcomes.{accepted}
 use Rattle.parts.specs.AnsweredSet.{size}
 use Rattle.parts.specs.Sizes.{ask_size, tell_size}
 use Rattle.parts.specs.Parts.{goes_to_node, is_asking, is_telling, is_two, is_up, writes}
@@ -95,3 +96,8 @@ delivered formed σ c k x y f =
     (is_well_formed formed ∷ has_console σ c ∷ has_node σ k ∷ holds_frame f ∷ [])
     Err
     (cond (is_withdrawn x f) discards (on_frame σ c k x y f))
+
+-- a decision by which the step is accepted
+abbrev pub accepts : Decision → Bool
+accepts (Err r) = false
+accepts (Ok d) = accepted d.outcome

@@ -42,7 +42,7 @@ pub fn delivered(
 }
 
 // An ask or a put of a down console is withdrawn (document 02, Paper 6).
-fn is_withdrawn(x: Console, f: Frame) -> bool
+pub(crate) fn is_withdrawn(x: Console, f: Frame) -> bool
     ensures { result ≡ is_withdrawn x f }
 {
     f.goes_to_node() && !x.state.is_up()
@@ -117,14 +117,14 @@ fn take_reply(setup: Setup, c: ConsoleId, reply: TakenIn) -> Decision
 
 // Whether a read finishes with the replies alone (document 02, Paper 4); x is the console with the reply taken in.
 #[tactic(auto, unfolding(crate::specs::Deliver::finishes_early))]
-fn finishes_early(setup: Setup, x: Console) -> bool
+pub(crate) fn finishes_early(setup: Setup, x: Console) -> bool
     ensures { result ≡ finishes_early setup x }
 {
     setup.release.is_two() && !x.state.is_writing() && x.alike
 }
 
 // Question 10: whether a write's timestamp can grow; x is the console with the reply taken in.
-fn has_next(x: Console) -> bool
+pub(crate) fn has_next(x: Console) -> bool
     ensures { result ≡ (writes x.state implies ltb x.best.ts max_ts) }
 {
     !x.state.is_writing() || x.best.ts < MAX_TS

@@ -42,6 +42,7 @@ pub struct Change {
 // What a step comes to: its refusal, or what it changes.
 pub type Decision = Result<Change, Refusal>;
 
+pub mod accepting;
 pub mod consoles;
 pub mod delivery;
 pub mod hearing;

@@ -28,8 +28,7 @@ use Rattle.decisions.specs.Deliver.{acknowledged, delivered, discards, finished,
 use Rattle.decisions.specs.Questions.{has_console, has_next_ts, has_node, holds_frame, is_well_formed, node_is_up}
 use Rattle.board.specs.Boards.{console_at, frame_at, node_at}
 use Rattle.board.specs.Applied.{applied}
-use Rattle.board.specs.Deliver.{deliver}
-use Rattle.board.specs.Runs.{Deliver, step}
+use Rattle.board.specs.Deliver.{deliver, deliverable}
 use Rattle.board.specs.WellFormed.{well_formed}
 use Rattle.board.specs.declared.Answer.{Answer}
 use Rattle.board.specs.declared.Board.{Board}
@@ -82,8 +81,8 @@ applied_taken b c k (Ok d) t = t
 
 -- the delivery of a frame that is taken is accepted, and so is that of one that is withdrawn
 deliver_taken : {σ : Setup} (b : Board) (c k : ℕ) → BoardOk (Good σ) σ b → c < σ.m → k < σ.n → is_nothing (frame_at b c k) ≡ false
-    → Decides (on_frame b.setup c k (console_at b c) (node_at b k) (frame_at b c k)) → Accepts (step b (Deliver c k))
-unfolding deliver delivered discards step
+    → Decides (on_frame b.setup c k (console_at b c) (node_at b k) (frame_at b c k)) → deliverable b c k ≡ true
+unfolding deliverable deliver delivered discards
 deliver_taken b c k h cm kn full t = applied_taken b c k _ (all_yes Decides (is_well_formed (well_formed b) ∷ has_console b.setup c ∷ has_node b.setup k ∷ holds_frame (frame_at b c k) ∷ []) Err
     (board_formed b h also lt-ltb c b.setup.m (omega (arith, m_is h.shape)) also lt-ltb k b.setup.n (omega (arith, n_is h.shape)) also (rw full) also none)
     (split Decides (is_withdrawn (console_at b c) (frame_at b c k)) (λ _. refl) (λ _. t)))

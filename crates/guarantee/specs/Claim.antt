@@ -2,7 +2,6 @@
 -- every run from a fresh board of any allowed size, under either release. proofs/Theorem.antt proves it.
 use Rattle.std.specs.Prelude.{ℕ, ◌+◌, ◌*◌, ◌≤◌, ◌<◌, true, List, [], ◌∷◌, ◌⊎◌, ◌≡◌}
 use Rattle.parts.specs.Finite.{count}
-use Rattle.parts.specs.Outcomes.{accepted}
 use Rattle.parts.specs.Limits.{max_nodes, max_consoles}
 use Rattle.parts.specs.Sizes.{majority}
 use Rattle.parts.specs.Tags.{greater}
@@ -10,7 +9,8 @@ use Rattle.parts.specs.Parts.{is_waiting}
 use Rattle.parts.specs.declared.Setup.{Setup}
 use Rattle.parts.specs.declared.Tag.{Tag}
 use Rattle.board.specs.Boards.{console_at}
-use Rattle.board.specs.Runs.{Step, Deliver, step}
+use Rattle.board.specs.Deliver.{deliverable}
+use Rattle.board.specs.Runs.{Step}
 use Rattle.guarantee.specs.Log.{Op, Open, Complete, Run, is_open_at, run, tally, writes_begun}
 
 -- each member of the list, and some member
@@ -36,9 +36,9 @@ abbrev pub Waits : Setup → Run → ℕ → Type 0
 Waits σ r c = (c < σ.m) × (is_waiting (console_at r.board c).state ≡ true)
 
 -- a console 'has a frame that can be delivered if, for some node, a deliver of that console and node as the next step
--- would be accepted'
+-- would be accepted'; document 02's picker tries pairs by the same test
 abbrev pub HasDeliverable : Setup → Run → ℕ → Type 0
-HasDeliverable σ r c = (k : ℕ) × (k < σ.n) × (accepted (step r.board (Deliver c k)).outcome ≡ true)
+HasDeliverable σ r c = (k : ℕ) × (k < σ.n) × (deliverable r.board c k ≡ true)
 
 -- two finished operations, 'one's finish before the other's begin'
 abbrev pub FinishedBefore : Op → Op → Type 0
