@@ -1,7 +1,7 @@
 /* The board for C, on x86-64. Link with crates/hatukeno/out/libhatukeno.a, which `rt lib` there writes.
  *
  * A board stands in BOARD_WORDS words of memory that the caller lends. A call puts a step to it (board_run a list of them,
- * board_preview none), and the answer goes into ANSWER_WORDS words:
+ * board_preview and board_turn none), and the answer goes into ANSWER_WORDS words:
  *
  *   said[0]  the outcome: 0 refused, 1 done, 2 handed, 3 heard, 4 turned, 5 finished, 6 discarded
  *   said[1]  why it was refused, or 0:
@@ -40,15 +40,28 @@
  * passed over. A step whose number none has is refused with 12, on any board. `said` gets ANSWER_WORDS words for each step,
  * and a refused step leaves the board as it was, a refused fresh too. STEP_FRESH makes release 1, on a board of release 2 too.
  *
- * A call returns 0 if the steps were put to the board, refused or not, or the preview was given. If `words` is shorter
- * than a board it returns 1, if `said` is shorter than the answers it returns 2, if `steps_len` is no multiple of
- * STEP_WORDS it returns 3, and then nothing is written. Lengths are in words; memory beyond a board, or beyond the answers,
- * is never written. The pointers must be valid for their lengths, the lent memories must not overlap, and nobody else may
- * touch them during the call.
+ * board_turn is no step either. It is for a link that carries map tiles beside the board's frames, and says which of them
+ * it sends next. Turns run in fours: in the first three a frame goes if one can be delivered without refusal, else a tile
+ * if one waits; in the fourth the tile comes first. Frames are tried by console, then node, from after the one last
+ * picked. `tile_waits` is 0 if no tile waits. The board is only read: a frame that is sent is to be delivered with
+ * board_deliver. `turn` has TURN_WORDS words:
+ *
+ *   turn[0], turn[1], turn[2]  the picker's place in the four, from 0, and the console and node last picked. It begins with
+ *                              TURN_START, and each call puts the next state there. Any other words may be there:
+ *                              a state that is out of range for the board's n and m counts as the start
+ *   turn[3]  what is sent: LINK_NOTHING, LINK_TILE or LINK_FRAME
+ *   turn[4]  0, or 1 if the board is not well formed: then nothing is sent, and the state stays as it is
+ *   turn[5], turn[6]  the frame's console and node, if one is sent; else 0
+ *
+ * A call returns 0 if the steps were put to the board, refused or not, or the preview or the turn was given. If `words`
+ * is shorter than a board it returns 1, if `said` is shorter than the answers or `turn` than a turn it returns 2, if
+ * `steps_len` is no multiple of STEP_WORDS it returns 3, and then nothing is written. Lengths are in words; memory
+ * beyond a board, or beyond the answers, is never written. The pointers must be valid for their lengths, the lent
+ * memories must not overlap, and nobody else may touch them during the call.
  *
  * Any words whatever may be lent: if no board is written as they are, or it is not well formed, every step but a fresh
- * is refused with 1, and nothing is written; a preview says the same. So a flipped bit is refused unless it makes the
- * words of another well-formed board. The words of a board are
+ * is refused with 1, and nothing is written; a preview and a turn say the same. So a flipped bit is refused unless it
+ * makes the words of another well-formed board. The words of a board are
  *
  *   0, 1     n and m
  *   2        the release, 1 or 2
@@ -76,6 +89,8 @@
 #define BOARD_LAYOUT 2
 #define ANSWER_WORDS 7
 #define STEP_WORDS 3
+#define TURN_WORDS 7
+#define TURN_START {0, UINT32_MAX, UINT32_MAX}
 
 enum {
     STEP_FRESH,
@@ -86,6 +101,12 @@ enum {
     STEP_CONSOLE_DOWN,
     STEP_NODE_UP,
     STEP_RESTART
+};
+
+enum {
+    LINK_NOTHING,
+    LINK_TILE,
+    LINK_FRAME
 };
 
 #ifdef __cplusplus
@@ -102,6 +123,7 @@ uint32_t board_console_down(uint32_t *words, size_t words_len, uint32_t *said, s
 uint32_t board_node_up(uint32_t *words, size_t words_len, uint32_t *said, size_t said_len, uint32_t node);
 uint32_t board_restart(uint32_t *words, size_t words_len, uint32_t *said, size_t said_len, uint32_t console);
 uint32_t board_preview(const uint32_t *words, size_t words_len, uint32_t *said, size_t said_len, uint32_t console, uint32_t node);
+uint32_t board_turn(const uint32_t *words, size_t words_len, uint32_t *turn, size_t turn_len, uint32_t tile_waits);
 uint32_t board_run(uint32_t *words, size_t words_len, const uint32_t *steps, size_t steps_len, uint32_t *said, size_t said_len);
 
 #ifdef __cplusplus

@@ -1,5 +1,6 @@
 /* Console 1 of 2 writes 7 on three nodes; nodes 0 and 2 are a majority, so the write finishes without node 1, which then
- * goes down and comes back. Then the same write after a restart of its console, previews, and a read under release 2.
+ * goes down and comes back. Then the same write after a restart of its console, previews, a read under release 2, and a link that
+ * tiles share.
  * Ends with 0 if every answer is the one that is written here. */
 #include "board.h"
 
@@ -93,6 +94,31 @@ static int quiet(void)
     return 0;
 }
 
+/* console 0 reads and console 1 writes 7, while a tile waits at every turn: of 28 turns the tiles take one in four, and
+ * both consoles finish */
+static int shared(void)
+{
+    static uint32_t turn[TURN_WORDS] = TURN_START;
+    uint32_t tiles = 0, finished = 0;
+    if (board_fresh(words, BOARD_WORDS, said, ANSWER_WORDS, 3, 2) != 0 || said[0] != 1)
+        return 23;
+    if (board_begin_read(words, BOARD_WORDS, said, ANSWER_WORDS, 0) != 0 || said[0] != 1)
+        return 24;
+    if (board_begin_write(words, BOARD_WORDS, said, ANSWER_WORDS, 1, 7) != 0 || said[0] != 1)
+        return 25;
+    for (int i = 0; i < 28; i++) {
+        if (board_turn(words, BOARD_WORDS, turn, TURN_WORDS, 1) != 0 || turn[3] == LINK_NOTHING)
+            return 26;
+        if (turn[3] == LINK_TILE)
+            tiles++;
+        else if (board_deliver(words, BOARD_WORDS, said, ANSWER_WORDS, turn[5], turn[6]) != 0 || said[0] == 0)
+            return 27;
+        else if (said[0] == 5)
+            finished++;
+    }
+    return tiles == 7 && finished == 2 ? 0 : 28;
+}
+
 int main(void)
 {
     if (board_fresh(words, BOARD_WORDS, said, ANSWER_WORDS, 3, 2) != 0 || said[0] != 1)
@@ -115,5 +141,7 @@ int main(void)
         wrong = again();
     if (wrong == 0)
         wrong = ahead();
-    return wrong != 0 ? wrong : quiet();
+    if (wrong == 0)
+        wrong = quiet();
+    return wrong != 0 ? wrong : shared();
 }

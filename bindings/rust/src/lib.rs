@@ -89,6 +89,35 @@
 //! assert_eq!(board.preview(1, 0), Preview { outcome: Err(Refusal(8)), in_flight: 3 });
 //! # Ok::<(), Refusal>(())
 //! ```
+//!
+//! Where map tiles share the link, a picker says what it sends next. Console 0 reads and console 1 writes 7 while a tile
+//! waits at every turn; the tiles take one turn in four, and both consoles finish:
+//!
+//! ```
+//! # use hatukeno::{Board, Next, Outcome, Picker, Refusal};
+//! let mut board = Board::fresh(3, 2)?;
+//! board.begin_read(0)?;
+//! board.begin_write(1, 7)?;
+//! let mut picker = Picker::START;
+//! let (mut tiles, mut finished) = (0, vec![]);
+//! for _ in 0..28 {
+//!     match picker.turn(&board, true)? {
+//!         Next::Nothing => unreachable!("a tile waits"),
+//!         Next::Tile => tiles += 1,
+//!         Next::Frame { console, node } => {
+//!             if let Outcome::Finished { value, .. } = board.deliver(console, node)?.outcome {
+//!                 finished.push((console, value));
+//!             }
+//!         }
+//!     }
+//! }
+//! assert_eq!((tiles, finished), (7, vec![(0, 0), (1, 7)]));
+//! # Ok::<(), Refusal>(())
+//! ```
+
+mod picker;
+
+pub use picker::{Next, Picker};
 
 use std::error::Error;
 use std::fmt::{self, Display, Formatter};

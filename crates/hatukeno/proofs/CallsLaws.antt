@@ -12,6 +12,7 @@ use Rattle.layout.specs.Layout.{board_words}
 use Rattle.hatukeno.specs.Lists.{list_short_by}
 use Rattle.hatukeno.specs.Calls.{answer_words, put_answer, kept, returned_by, short_by, code, Called}
 use Rattle.hatukeno.specs.Previews.{put_preview, Previewed}
+use Rattle.hatukeno.specs.Turns.{put_turn, turn_in, TurnCalled}
 use Rattle.std.specs.Prelude.{Err}
 use Rattle.hatukeno.specs.declared.lengths.Short.{Short}
 use Rattle.hatukeno.specs.declared.lengths.Short.TheVariants.{Board, Answers, Steps}
@@ -88,3 +89,9 @@ not_previewed p w s r e n = record { returned = e; answer = rw (not_written w s 
 
 pub previewed : (p : Preview) (w s : List ℕ) → 0 ≡ code w s → (s' : List ℕ) → s' ≡ put_preview s p → Previewed p w s 0 s'
 previewed p w s e s' t = record { returned = e; answer = t ∙ rw (is_written w s e) }
+
+pub no_turn : (w s : List ℕ) (tile_waits r : ℕ) → r ≡ code w s → (r ≡ 0 → ⊥) → TurnCalled w s tile_waits r s
+no_turn w s tile_waits r e n = record { returned = e; turn = rw (not_written w s r e n) }
+
+pub turn_called : (w s : List ℕ) (tile_waits : ℕ) → 0 ≡ code w s → (s' : List ℕ) → s' ≡ put_turn s (turn_in w s tile_waits) → TurnCalled w s tile_waits 0 s'
+turn_called w s tile_waits e s' t = record { returned = e; turn = t ∙ rw (is_written w s e) }

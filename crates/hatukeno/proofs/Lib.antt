@@ -2,3 +2,4 @@
 pub mod CallsLaws
 pub mod ListsLaws
 pub mod HeaderHolds
+pub mod TurnsHold

@@ -1,22 +1,29 @@
--- What bindings/c/board.h says of the words of an answer, of a preview's and of those of a step in a list. Words that
+-- What bindings/c/board.h says of the words of an answer, of a preview, of a turn and of a step in a list. Words that
 -- changed places in definition and code would meet every contract; these lists hold them to the header.
-use Rattle.std.specs.Prelude.{ℕ, List, [], ◌∷◌, ◌≡◌, None, Some}
+use Rattle.std.specs.Prelude.{ℕ, Bool, true, false, List, [], ◌∷◌, ◌≡◌, map, replicate, None, Some}
 use Rattle.parts.specs.declared.Tag.{Tag}
 use Rattle.parts.specs.declared.Outcome.TheVariants.{Refused, Done, Handed, Finished}
 use Rattle.std.specs.declared.cmp.Ordering.TheVariants.{Less, Equal, Greater}
-use Rattle.decisions.specs.declared.refusals.Refusal.TheVariants.{NodeIsDown}
+use Rattle.decisions.specs.declared.refusals.Refusal.TheVariants.{NodeIsDown, NotWellFormed}
 use Rattle.board.specs.declared.Board.{Board}
 use Rattle.board.specs.Answers.{answer, answer_with, refuse}
 use Rattle.board.specs.Boards.{no_board}
 use Rattle.board.specs.Deliver.{deliver}
 use Rattle.board.specs.Steps.{begin_write}
+use Rattle.picker.specs.declared.Next.TheVariants.{Nothing, Tile, Frame}
+use Rattle.picker.specs.declared.Picker.{Picker}
+use Rattle.picker.specs.Picking.{pair, unused}
 use Rattle.hatukeno.specs.Calls.{answer_fields}
 use Rattle.hatukeno.specs.Previews.{preview_fields}
 use Rattle.hatukeno.specs.Lists.{step_at}
+use Rattle.hatukeno.specs.Turns.{picker_in, turn_fields, says_yes}
 
 -- numbers that all differ
 abbrev tag : Tag
 tag = record { ts = 21; console = 6; life = 8 }
+
+abbrev picker : Picker
+picker = record { place = 1; last = pair 5 2 }
 
 -- what the definitions give
 unfoldable pub as_written : List (List ℕ)
@@ -30,7 +37,20 @@ as_written =
     ∷ answer_fields (answer_with (Some Greater) (Finished tag 42) no_board)
     ∷ preview_fields (record { outcome = Finished tag 42; refusal = None; in_flight = 40 })
     ∷ preview_fields (record { outcome = Refused; refusal = Some NodeIsDown; in_flight = 40 })
+    ∷ turn_fields (record { next = Nothing; refusal = None; picker = picker })
+    ∷ turn_fields (record { next = Tile; refusal = None; picker = picker })
+    ∷ turn_fields (record { next = Frame (pair 7 4); refusal = None; picker = picker })
+    ∷ turn_fields (record { next = Nothing; refusal = Some NotWellFormed; picker = picker })
+    ∷ turn_fields (record { next = Nothing; refusal = None; picker = picker_in (3 ∷ 6 ∷ 2 ∷ 9 ∷ 9 ∷ 9 ∷ 9 ∷ []) })
+    ∷ turn_fields (record { next = Nothing; refusal = None; picker = unused })
     ∷ []
+
+-- by which numbers a tile waits
+unfoldable pub waiting : List Bool
+waiting = map says_yes (0 ∷ 1 ∷ 2 ∷ 256 ∷ 4294967295 ∷ [])
+
+unfoldable pub waiting_in_the_header : List Bool
+waiting_in_the_header = false ∷ replicate 4 true
 
 -- what the header says
 unfoldable pub in_the_header : List (List ℕ)
@@ -44,6 +64,12 @@ in_the_header =
     ∷ (5 ∷ 0 ∷ 21 ∷ 6 ∷ 42 ∷ 3 ∷ 8 ∷ [])
     ∷ (5 ∷ 0 ∷ 21 ∷ 6 ∷ 42 ∷ 40 ∷ 8 ∷ [])
     ∷ (0 ∷ 9 ∷ 0 ∷ 0 ∷ 0 ∷ 40 ∷ 0 ∷ [])
+    ∷ (1 ∷ 5 ∷ 2 ∷ 0 ∷ 0 ∷ 0 ∷ 0 ∷ [])
+    ∷ (1 ∷ 5 ∷ 2 ∷ 1 ∷ 0 ∷ 0 ∷ 0 ∷ [])
+    ∷ (1 ∷ 5 ∷ 2 ∷ 2 ∷ 0 ∷ 7 ∷ 4 ∷ [])
+    ∷ (1 ∷ 5 ∷ 2 ∷ 0 ∷ 1 ∷ 0 ∷ 0 ∷ [])
+    ∷ (3 ∷ 6 ∷ 2 ∷ 0 ∷ 0 ∷ 0 ∷ 0 ∷ [])
+    ∷ (0 ∷ 4294967295 ∷ 4294967295 ∷ 0 ∷ 0 ∷ 0 ∷ 0 ∷ [])
     ∷ []
 
 -- 'its number and its two numbers': console 1 begins a write of 7, and its frame is delivered to node 0

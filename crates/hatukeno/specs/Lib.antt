@@ -1,5 +1,6 @@
 -- The calls on a board in words of lent memory.
 pub mod Calls
 pub mod Previews
+pub mod Turns
 pub mod Lists
 pub mod Header

@@ -7,6 +7,7 @@ mod calls;
 mod lengths;
 mod lists;
 mod previews;
+mod turns;
 
 // The board midway through a list of steps, and whether one of them has been accepted. No Option: by the definition
 // (midway) the next step goes on from the board either way.
