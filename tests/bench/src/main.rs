@@ -14,12 +14,14 @@ mod lines;
 mod loaded;
 mod plain;
 mod plain_lines;
+mod plain_picker;
 mod previews;
 mod runs;
 mod side;
 mod tables;
 mod tags;
 mod timing;
+mod turns;
 
 use common::arguments::{Arguments, RACK};
 use lines::Programs;

@@ -371,11 +371,32 @@ impl<const CHECKED: bool> Board<CHECKED> {
         self.cells.iter().map(|x| u32::from(x.frame != NOTHING)).sum()
     }
 
+    /// n and m.
+    pub fn size(&self) -> (u32, u32) {
+        (self.n, self.m)
+    }
+
+    /// Whether the frame between this console and this node, which the board has, can be delivered without refusal. Question 1
+    /// is not asked.
+    pub fn is_deliverable(&self, console: u32, node: u32) -> bool {
+        let Cell { frame, tag, .. } = self.cells[console as usize * MAX_NODES + node as usize];
+        let x = &self.consoles[console as usize];
+        // An ask or a put; by a match, the jumps through a table cost more.
+        if frame % 2 == 1 {
+            return (self.nodes[node as usize].up == 1) | (x.state == DOWN);
+        }
+        if frame != REPLY || x.state != ASKS_TO_WRITE {
+            return frame != NOTHING;
+        }
+        let turns = x.answered >> node & 1 == 0 && x.answered.count_ones() + 1 >= self.majority();
+        !turns || (tag.ts < MAX_TS && x.best.ts < MAX_TS)
+    }
+
     fn majority(&self) -> u32 {
         self.n / 2 + 1
     }
 
-    fn ask_question_1(&self) -> Result<(), Refusal> {
+    pub fn ask_question_1(&self) -> Result<(), Refusal> {
         if CHECKED && !self.is_well_formed() {
             return Err(Refusal(1));
         }

@@ -5,6 +5,7 @@ use crate::runs::{agree_under_two, damaged, made_run, Row, Run, BOARDS, DAMAGED,
 use crate::side::{Plain, Unasked};
 use crate::tags;
 use crate::timing::{each, fresh, list, listed, medians, whole};
+use crate::turns::time_turns;
 use common::{Chance, Step, Words};
 use hatukeno::{Board, Release};
 use std::mem::size_of;
@@ -17,6 +18,7 @@ pub fn time_steps(seed: u64, rounds: usize) {
     let (rows, runs) = drawn(seed);
     time_kinds(&rows, rounds);
     time_previews(&rows, rounds);
+    time_turns(seed, &rows, rounds);
     time_runs(&runs, rounds);
     time_before(&rows, &runs, rounds);
     let deliveries = rows.iter().find(|row| row.name == "deliver").expect("the row of all deliveries");

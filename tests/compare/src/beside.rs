@@ -2,6 +2,7 @@
 use crate::faults::Faulty;
 use crate::model::{Answer, Compared, Model, Outcome, Release, Step};
 use crate::previews::foresee;
+use crate::turns;
 use crate::words::{self, Words};
 use hatukeno::{Board, Refusal};
 
@@ -78,10 +79,11 @@ fn alike(library: &Said, model: &Answer) -> bool {
     }
 }
 
-/// Puts the step to both, after a preview, and gives the model's answer.
+/// Puts the step to both, after a preview and a turn of the link, and gives the model's answer.
 pub fn both(board: &mut Board, model: &mut Model, step: Step, faulty: Faulty) -> Agreed<Answer> {
     let (expected, next) = faulty.step(model, step);
     foresee(board, model, step, (expected, &next), faulty)?;
+    turns::before(board, model, step, faulty)?;
     let after = if expected.outcome.is_ok() {
         words::write(&next)
     } else {

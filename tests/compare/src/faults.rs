@@ -8,9 +8,11 @@ mod rules;
 mod standing;
 mod steps;
 mod taken;
+mod turns;
 mod withdrawn;
 
 use crate::model::{Answer, Model, Preview, Step};
+use crate::picker::{Next, Picker};
 use crate::rules::Rules;
 use crate::schedule::{self, Line};
 use crate::words::{self, Words};
@@ -22,6 +24,7 @@ use rules::*;
 use standing::*;
 pub use steps::*;
 pub use taken::Taken;
+use turns::*;
 use withdrawn::*;
 
 pub struct Fault {
@@ -38,6 +41,8 @@ enum Wraps {
     Step(fn(&mut Taken)),
     /// A preview: it gives something else.
     Preview(fn(&mut Foreseen)),
+    /// A turn of the link: it sends something else, or leaves another state.
+    Turn(fn(&mut Turned)),
     /// The words that a board is read from: they are taken for others.
     Words(fn(&mut Words)),
     /// A fresh in a list, on the first of these boards.
@@ -210,6 +215,37 @@ faults! {
     Preview(none_under_8),
     Preview(none_if_refused),
     Preview(frame_counted_out),
+    // Of Paper 9: what the link sends, in what order, and which state the picker keeps.
+    Turn(idle_uncounted),
+    Turn(tile_uncounted),
+    Turn(start_sticks),
+    Turn(tile_forgets_pair),
+    Turn(idle_forgets_pair),
+    Turn(tile_first_in_third),
+    Turn(tile_first_in_first),
+    Turn(frame_first_in_fourth),
+    Turn(fourth_idle_without_tile),
+    Turn(no_tile_in_three),
+    Turn(in_threes),
+    Turn(node_first),
+    Turn(from_the_last),
+    Turn(from_the_first),
+    Turn(no_wrap),
+    Turn(last_untried),
+    Turn(console_wraps),
+    Turn(any_frame_goes),
+    Turn(ten_goes),
+    Turn(withdrawn_stays_behind),
+    Turn(answers_of_down_nodes_stay),
+    Turn(discarded_stays_behind),
+    Turn(asks_last),
+    Turn(fifth_place),
+    Turn(place_kept_out_of_range),
+    Turn(pair_kept_out_of_range),
+    Turn(range_of_any_board),
+    Turn(refused_counted),
+    Turn(refused_starts_anew),
+    Turn(tile_under_1),
 }
 
 /// The model with a fault round it, or as it is.
@@ -251,6 +287,14 @@ impl Faulty {
         match self.wraps() {
             Some(Wraps::Preview(change)) => Foreseen::changed(before, pair, after, preview, change),
             _ => preview,
+        }
+    }
+
+    /// A turn of the link: what it sends, and the state that it leaves.
+    pub fn turn(self, board: &Model, picker: Picker, tile_waits: bool) -> (Result<Next, u32>, Picker) {
+        match self.wraps() {
+            Some(Wraps::Turn(change)) => Turned::changed(board, picker, tile_waits, change),
+            _ => picker.turn(&self.taken_for(board), tile_waits),
         }
     }
 

@@ -4,6 +4,7 @@ use crate::beside::{both, expect, listed, Agreed};
 use crate::faults::Faulty;
 use crate::model::{Answer, Model, Step};
 use crate::previews;
+use crate::turns;
 use crate::words::Words;
 use hatukeno::Board;
 
@@ -51,6 +52,7 @@ impl Lent {
             None => {
                 let (refused, words) = (Answer::plain(Err(1)), *self.board.words());
                 previews::of_no_board(&self.board, step)?;
+                turns::of_no_board(&self.board, step)?;
                 expect(&mut self.board, step, refused, &words)?;
                 Ok(refused)
             }

@@ -43,7 +43,7 @@ pub fn compare(amount: Amount, seed: u64, faulty: Faulty) -> Agreed<Seen> {
         seen.damaged.sweep(n, m, &mut chance, faulty)?;
         seen.reads.run(n, m, &mut chance, faulty)?;
     }
-    flip(seed, faulty, &mut seen)?;
+    flip_and_share(seed, faulty, &mut seen)?;
     while seen.damaged.ill < amount.damaged {
         seen.damaged.draw(&mut chance, faulty)?;
     }
@@ -74,12 +74,13 @@ fn run_where_numbers_wrap(seed: u64, faulty: Faulty, seen: &mut Seen) -> Agreed 
     Ok(())
 }
 
-/// Drawn apart too.
-fn flip(seed: u64, faulty: Faulty, seen: &mut Seen) -> Agreed {
-    let mut apart = Chance(!seed);
+/// Drawn apart too, each of the two for itself.
+fn flip_and_share(seed: u64, faulty: Faulty, seen: &mut Seen) -> Agreed {
+    let [mut flips, mut turns] = [Chance(!seed), Chance(!seed)];
     for (n, m) in sizes() {
         for release in RELEASES {
-            seen.flips.run(n, m, release, &mut apart, faulty)?;
+            seen.flips.run(n, m, release, &mut flips, faulty)?;
+            seen.turns.run(n, m, release, &mut turns, faulty)?;
         }
     }
     Ok(())

@@ -20,6 +20,7 @@ mod library;
 mod lives;
 mod marks;
 mod model;
+mod picker;
 mod previews;
 mod reads;
 mod reboots;
@@ -29,6 +30,7 @@ mod runs;
 mod schedule;
 mod schedules;
 mod seen;
+mod turns;
 mod words;
 
 use beside::Agreed;

@@ -262,7 +262,7 @@ fn is_asking_good(x: &Console) -> bool {
 /// The questions put before each step.
 impl Model {
     /// Asked in this order, as far as the step needs them. The first no gives the refusal with that number.
-    fn ask(&self, step: Step) -> Result<(), u32> {
+    pub fn ask(&self, step: Step) -> Result<(), u32> {
         question(1, self.is_well_formed())?;
         let has_console = |c| question(4, c < self.m);
         let has_node = |k| question(5, k < self.n);

@@ -6,7 +6,7 @@ use crate::words;
 use hatukeno::Board;
 
 /// The pair that is looked at: the one that is delivered next, or any beside the step's console or node.
-fn pair(step: Step) -> (u32, u32) {
+pub fn pair(step: Step) -> (u32, u32) {
     match step {
         Step::Deliver(c, k) => (c, k),
         Step::BeginRead(c) | Step::BeginWrite(c, _) | Step::ConsoleDown(c) | Step::Restart(c) => (c, c % 5),

@@ -9,6 +9,7 @@ use crate::reads::Reads;
 use crate::reboots::Reboots;
 use crate::releases::Releases;
 use crate::rules::Counts;
+use crate::turns::Turns;
 
 /// The sizes in the order in which they are counted and printed.
 pub fn sizes() -> impl Iterator<Item = (u32, u32)> {
@@ -28,6 +29,7 @@ pub struct Seen {
     pub damaged: Damaged,
     pub flips: Flips,
     pub reads: Reads,
+    pub turns: Turns,
 }
 
 impl Seen {
@@ -56,6 +58,7 @@ impl Seen {
         self.flips.print();
         self.print_steps();
         self.reads.print();
+        self.turns.print();
     }
 
     /// A row for each size.
@@ -162,6 +165,8 @@ impl Seen {
             "the mark"
         } else if !self.flips.shows_all() {
             "flipped bits"
+        } else if !self.turns.shows_all() {
+            "turns of the link"
         } else if [refused, early].contains(&0) {
             "the last timestamp"
         } else if wrapped.contains(&0) {
