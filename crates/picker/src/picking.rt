@@ -27,8 +27,8 @@ impl Picker {
         Picker {
             place: 0,
             last: Pair {
-                console: ConsoleId(4294967295),
-                node: NodeId(4294967295),
+                console: ConsoleId(u32::MAX),
+                node: NodeId(u32::MAX),
             },
         }
     }
@@ -96,7 +96,7 @@ impl Picker {
             refusal: None,
             picker: Picker {
                 place: next_place(self.place),
-                last: self.last.or(x),
+                last: last_after(self.last, x),
             },
         }
     }
@@ -120,14 +120,12 @@ fn next_place(place: u32) -> u32
     if place < 3 { place + 1 } else { 0 }
 }
 
-impl Pair {
-    // The pair last picked, once x is sent.
-    fn or(self, x: Next) -> Pair
-        ensures { result ≡ last_after self x }
-    {
-        match x {
-            Next::Frame(pair) => pair,
-            _ => self,
-        }
+// The pair last picked, once x is sent.
+fn last_after(last: Pair, x: Next) -> Pair
+    ensures { result ≡ last_after last x }
+{
+    match x {
+        Next::Frame(pair) => pair,
+        _ => last,
     }
 }
