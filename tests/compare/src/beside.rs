@@ -5,6 +5,7 @@ use crate::previews::foresee;
 use crate::turns;
 use crate::words::{self, Words};
 use hatukeno::{Board, Refusal};
+use std::fmt::Debug;
 
 /// What the two differ by, or how a rule is broken, in whole lines.
 pub struct Difference(pub String);
@@ -14,6 +15,17 @@ pub type Agreed<T = ()> = Result<T, Difference>;
 /// Stops at a difference that these lines tell of.
 pub fn differ<T>(lines: &[String]) -> Agreed<T> {
     Err(Difference(lines.join("\n")))
+}
+
+/// Stops at a difference in what the two gave of a board that was only read.
+pub fn gave_otherwise(what: &str, board: &Board, library: impl Debug, model: impl Debug) -> Agreed {
+    differ(&[
+        format!("a difference at {what}"),
+        format!("the board is {:?}", words::read(board.words())),
+        format!("its words are {:?}", board.words()),
+        format!("the library gave {library:?}"),
+        format!("the model gave {model:?}"),
+    ])
 }
 
 /// What the library answers.

@@ -1,8 +1,7 @@
 //! Previews beside the model, on every board before a step is put to it.
-use crate::beside::{differ, same, Agreed};
+use crate::beside::{gave_otherwise, same, Agreed};
 use crate::faults::Faulty;
 use crate::model::{Answer, Model, Preview, Step};
-use crate::words;
 use hatukeno::Board;
 
 /// The pair that is looked at: the one that is delivered next, or any beside the step's console or node.
@@ -26,13 +25,7 @@ fn alike(library: hatukeno::Preview, model: Preview) -> bool {
 fn expect(board: &Board, (c, k): (u32, u32), expected: Preview) -> Agreed {
     let library = board.preview(c, k);
     if !alike(library, expected) {
-        return differ(&[
-            format!("a difference at the preview of {c} {k}"),
-            format!("the board is {:?}", words::read(board.words())),
-            format!("its words are {:?}", board.words()),
-            format!("the library gave {library:?}"),
-            format!("the model gave {expected:?}"),
-        ]);
+        return gave_otherwise(&format!("the preview of {c} {k}"), board, library, expected);
     }
     Ok(())
 }

@@ -1,6 +1,6 @@
 //! Turns of the link beside the model: one on every fourth board, before a step is put to it, and runs of them in which the
 //! state goes on from board to board.
-use crate::beside::{both, differ, made, Agreed};
+use crate::beside::{both, gave_otherwise, made, Agreed};
 use crate::faults::Faulty;
 use crate::model::{Model, Release, Step, MAX_TS};
 use crate::picker::{Next, Picker};
@@ -42,13 +42,8 @@ fn expect(board: &Board, given: Picker, tile_waits: bool, (next, left): (Result<
     let mut picker = in_library(given);
     let library = picker.turn(board, tile_waits);
     if library != next.map(sent).map_err(Refusal) || picker != in_library(left) {
-        return differ(&[
-            format!("a difference at a turn, tile {tile_waits}, of {given:?}"),
-            format!("the board is {:?}", words::read(board.words())),
-            format!("its words are {:?}", board.words()),
-            format!("the library gave {library:?} and left {picker:?}"),
-            format!("the model gave {next:?} and left {left:?}"),
-        ]);
+        let what = format!("a turn, tile {tile_waits}, of {given:?}");
+        return gave_otherwise(&what, board, (library, picker), (next, left));
     }
     Ok(())
 }
