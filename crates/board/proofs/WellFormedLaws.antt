@@ -17,15 +17,15 @@ use Rattle.board.specs.declared.Board.{Board}
 use Rattle.board.specs.Boards.{node_at, console_at, frame_at}
 use Rattle.board.specs.WellFormed.{well_formed}
 
-pub tag_small : (σ : Setup) (t : Tag) (v : ℕ) → σ.m ≤ 8 → tag_ok σ t v ≡ true → Small t
+pub tag_small : (m : ℕ) (t : Tag) (v : ℕ) → m ≤ 8 → tag_ok m t v ≡ true → Small t
 unfolding tag_ok
-tag_small σ t v most h = record {
-  console_8 = omega (arith, most, ltb-true t.console σ.m (and_right (leb t.ts max_ts) _ (and_left (leb t.ts max_ts && ltb t.console σ.m) _ before)));
-  life_fits = omega (arith, leb-true t.life max_life (and_right (leb t.ts max_ts && ltb t.console σ.m) _ before));
+tag_small m t v most h = record {
+  console_8 = omega (arith, most, ltb-true t.console m (and_right (leb t.ts max_ts) _ (and_left (leb t.ts max_ts && ltb t.console m) _ before)));
+  life_fits = omega (arith, leb-true t.life max_life (and_right (leb t.ts max_ts && ltb t.console m) _ before));
 }
   where
-    before : (leb t.ts max_ts && ltb t.console σ.m && leb t.life max_life) ≡ true
-    before = and_left (leb t.ts max_ts && ltb t.console σ.m && leb t.life max_life) _ h
+    before : (leb t.ts max_ts && ltb t.console m && leb t.life max_life) ≡ true
+    before = and_left (leb t.ts max_ts && ltb t.console m && leb t.life max_life) _ h
 
 module _ (b : Board) (h : well_formed b ≡ true) where
   three_parts : (setup_ok b.setup && nodes_ok b.setup b.nodes && consoles_ok b.setup b.consoles) ≡ true
@@ -79,15 +79,15 @@ module _ (b : Board) (h : well_formed b ≡ true) where
   cell_passes c k l i = every_at (λ k. cell_ok b.setup c k (frame_at b c k)) 5 (every_at (row_ok b.setup b.cells) 8 cells_part c l) k i
 
   module _ (c k : ℕ) (cm : c < b.setup.m) (kn : k < b.setup.n) where
-    node_tag : tag_ok b.setup (node_at b k).tag (node_at b k).value ≡ true
+    node_tag : tag_ok b.setup.m (node_at b k).tag (node_at b k).value ≡ true
     unfolding node_ok
     node_tag = rw (lt-ltb k b.setup.n kn) at (node_passes k (omega (arith, n_at_most)))
 
-    best_tag : tag_ok b.setup (console_at b c).best (console_at b c).value ≡ true
+    best_tag : tag_ok b.setup.m (console_at b c).best (console_at b c).value ≡ true
     unfolding console_ok
     best_tag =
         let passes = rw (lt-ltb c b.setup.m cm) at (console_passes c (omega (arith, m_at_most))) in
-        and_left (tag_ok b.setup (console_at b c).best (console_at b c).value) _ (and_right (mark_ok (console_at b c) (console_at b c).state && leb (console_at b c).life max_life) _ passes)
+        and_left (tag_ok b.setup.m (console_at b c).best (console_at b c).value) _ (and_right (mark_ok (console_at b c) (console_at b c).state && leb (console_at b c).life max_life) _ passes)
 
     frame_passes : frame_ok b.setup (frame_at b c k) ≡ true
     unfolding cell_ok
@@ -99,8 +99,8 @@ module _ (b : Board) (h : well_formed b ≡ true) where
     comparable = record {
       c_8 = omega (arith, m_at_most);
       k_8 = omega (arith, n_at_most);
-      best_8 = (tag_small b.setup (console_at b c).best (console_at b c).value m_at_most best_tag).console_8;
-      node_8 = (tag_small b.setup (node_at b k).tag (node_at b k).value m_at_most node_tag).console_8;
-      reply_8 = λ t v e. (tag_small b.setup t v m_at_most (rw e at frame_passes)).console_8;
-      put_8 = λ t v e. (tag_small b.setup t v m_at_most (rw e at frame_passes)).console_8;
+      best_8 = (tag_small b.setup.m (console_at b c).best (console_at b c).value m_at_most best_tag).console_8;
+      node_8 = (tag_small b.setup.m (node_at b k).tag (node_at b k).value m_at_most node_tag).console_8;
+      reply_8 = λ t v e. (tag_small b.setup.m t v m_at_most (rw e at frame_passes)).console_8;
+      put_8 = λ t v e. (tag_small b.setup.m t v m_at_most (rw e at frame_passes)).console_8;
     }

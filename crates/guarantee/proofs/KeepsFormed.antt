@@ -85,20 +85,20 @@ module _ (b : Board) (h : Formed b.setup b) where
     x = console_at b c
 
     -- the clause of console c, in range
-    console_ok_lem : (mark_ok x x.state && leb x.life max_life && (tag_ok σ x.best x.value && state_ok σ x x.state)) ≡ true
+    console_ok_lem : (mark_ok x x.state && leb x.life max_life && (tag_ok σ.m x.best x.value && state_ok σ x x.state)) ≡ true
     unfolding console_ok
     console_ok_lem = rw (lt-ltb c σ.m cm) at (h.console c (omega (arith, allowed.m_8)))
 
     -- its best tag is good
     best_good : Good σ x.best x.value
-    best_good = and_left (tag_ok σ x.best x.value) _ (and_right (mark_ok x x.state && leb x.life max_life) _ console_ok_lem)
+    best_good = and_left (tag_ok σ.m x.best x.value) _ (and_right (mark_ok x x.state && leb x.life max_life) _ console_ok_lem)
 
     -- it passes the tests of its state, of its mark and of its life
     passes : Passes σ x.state x
     passes =
         let before = and_left (mark_ok x x.state && leb x.life max_life) _ console_ok_lem in
         record {
-          state = and_right (tag_ok σ x.best x.value) _ (and_right (mark_ok x x.state && leb x.life max_life) _ console_ok_lem);
+          state = and_right (tag_ok σ.m x.best x.value) _ (and_right (mark_ok x x.state && leb x.life max_life) _ console_ok_lem);
           mark = and_left (mark_ok x x.state) _ before;
           life = leb-true x.life max_life (and_right (mark_ok x x.state) _ before);
         }

@@ -40,12 +40,12 @@ is_zero t v =
     && eqb t.life 0
     && eqb v 0
 
-unfoldable pub tag_ok : Setup → Tag → ℕ → Bool
-tag_ok σ t v =
+unfoldable pub tag_ok : ℕ → Tag → ℕ → Bool
+tag_ok m t v =
     -- 'every tag has ts at most 4,000,000,000'
     leb t.ts max_ts
     -- 'and a console number below m'
-    && ltb t.console σ.m
+    && ltb t.console m
     -- 'no tag .. has a life above 1,000'
     && leb t.life max_life
     -- 'a tag with ts 0 has console 0 and value 0'
@@ -55,7 +55,7 @@ tag_ok σ t v =
 
 unfoldable pub node_ok : Setup → ℕ → Node → Bool
 node_ok σ k x =
-    cond (ltb k σ.n) (tag_ok σ x.tag x.value)
+    cond (ltb k σ.n) (tag_ok σ.m x.tag x.value)
     -- 'nodes .. beyond n .. are up with tag (0, 0) and value 0'
     (x.up && is_zero x.tag x.value)
 
@@ -108,7 +108,7 @@ console_ok σ c x =
     mark_ok x x.state
     -- 'no .. console has a life above 1,000'
     && leb x.life max_life
-    && cond (ltb c σ.m) (tag_ok σ x.best x.value && state_ok σ x x.state)
+    && cond (ltb c σ.m) (tag_ok σ.m x.best x.value && state_ok σ x x.state)
     -- 'consoles .. beyond .. m are .. idle', 'and consoles beyond m have life 0'
     (is_idle x.state && rest_ok x && eqb x.life 0)
 
@@ -121,8 +121,8 @@ consoles_ok σ xs = every max_consoles (λ c. console_ok σ c (console_in xs c))
 unfoldable pub frame_ok : Setup → Frame → Bool
 frame_ok σ Nothing = true
 frame_ok σ Ask = true
-frame_ok σ (Reply t v) = tag_ok σ t v
-frame_ok σ (Put t v) = tag_ok σ t v
+frame_ok σ (Reply t v) = tag_ok σ.m t v
+frame_ok σ (Put t v) = tag_ok σ.m t v
 frame_ok σ Ack = true
 
 unfoldable pub cell_ok : Setup → ℕ → ℕ → Frame → Bool

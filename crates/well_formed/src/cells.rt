@@ -14,7 +14,7 @@ fn is_frame_ok(setup: Setup, f: Frame) -> bool
     ensures { result ≡ frame_ok setup f }
 {
     match f {
-        Frame::Reply(t, v) | Frame::Put(t, v) => is_tag_ok(setup, t, v),
+        Frame::Reply(t, v) | Frame::Put(t, v) => is_tag_ok(setup.m, t, v),
         Frame::Nothing | Frame::Ask | Frame::Ack => true,
     }
 }

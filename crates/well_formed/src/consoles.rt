@@ -64,7 +64,7 @@ fn is_console_ok(setup: Setup, c: ConsoleId, x: Console) -> bool
         return false;
     }
     if c.0 < setup.m {
-        is_tag_ok(setup, x.best, x.value) && is_state_ok(setup, x, x.state)
+        is_tag_ok(setup.m, x.best, x.value) && is_state_ok(setup, x, x.state)
     } else {
         x.state.is_idle() && is_rest_ok(x) && x.life == 0
     }

@@ -7,4 +7,4 @@ pub mod consoles;
 mod every;
 pub mod nodes;
 pub mod ranges;
-mod tags;
+pub mod tags;

@@ -11,7 +11,7 @@ fn is_node_ok(setup: Setup, k: NodeId, x: Node) -> bool
     ensures { result ≡ node_ok setup k.0 x }
 {
     if k.0 < setup.n {
-        is_tag_ok(setup, x.tag, x.value)
+        is_tag_ok(setup.m, x.tag, x.value)
     } else {
         x.up && is_zero(x.tag, x.value)
     }

@@ -2,22 +2,20 @@
 ghost use Rattle.std.specs.Prelude.{◌≡◌};
 ghost use Rattle.well_formed.specs.Clauses.{is_zero, tag_ok};
 
-use parts::{MAX_LIFE, MAX_TS, Setup, Tag};
+use parts::{MAX_LIFE, MAX_TS, Tag};
 
 // Whether this is tag (0, 0), in life 0, with value 0.
 #[tactic(auto, unfolding(crate::specs::Clauses::is_zero))]
-pub(crate) fn is_zero(t: Tag, v: u32) -> bool
+pub fn is_zero(t: Tag, v: u32) -> bool
     ensures { result ≡ is_zero t v }
 {
     t == Tag::ZERO && v == 0
 }
 
+// On a board of m consoles.
 #[tactic(auto, unfolding(crate::specs::Clauses::tag_ok))]
-pub(crate) fn is_tag_ok(setup: Setup, t: Tag, v: u32) -> bool
-    ensures { result ≡ tag_ok setup t v }
+pub fn is_tag_ok(m: u32, t: Tag, v: u32) -> bool
+    ensures { result ≡ tag_ok m t v }
 {
-    t.ts <= MAX_TS
-        && u32::from(t.console) < setup.m
-        && t.life <= MAX_LIFE
-        && (t.ts != 0 || is_zero(t, v))
+    t.ts <= MAX_TS && u32::from(t.console) < m && t.life <= MAX_LIFE && (t.ts != 0 || is_zero(t, v))
 }

@@ -199,7 +199,7 @@ board_up {K} {K'} {σ} {b} up h = record {
 
 -- the tags pass question 1
 abbrev pub Good : Setup → TagKind
-Good σ t v = tag_ok σ t v ≡ true
+Good σ t v = tag_ok σ.m t v ≡ true
 
 frame_good : (σ : Setup) (f : Frame) → FrameHas (Good σ) f → frame_ok σ f ≡ true
 unfolding frame_ok
@@ -223,7 +223,7 @@ module _ {σ : Setup} (b : Board) (h : BoardOk (Good σ) σ b) where
   console_passes c l = go (ltb c σ.m) refl
     where
       go : (x : Bool) → ltb c σ.m ≡ x
-          → (mark_ok (console_at b c) (console_at b c).state && leb (console_at b c).life max_life && cond x (tag_ok σ (console_at b c).best (console_at b c).value && state_ok σ (console_at b c) (console_at b c).state) (is_idle (console_at b c).state && rest_ok (console_at b c) && eqb (console_at b c).life 0)) ≡ true
+          → (mark_ok (console_at b c) (console_at b c).state && leb (console_at b c).life max_life && cond x (tag_ok σ.m (console_at b c).best (console_at b c).value && state_ok σ (console_at b c) (console_at b c).state) (is_idle (console_at b c).state && rest_ok (console_at b c) && eqb (console_at b c).life 0)) ≡ true
       go true e =
           let p = h.console_in_lem c (omega (arith, ltb-true)) in
           both (both p.mark (le-leb (console_at b c).life max_life p.life)) (both (h.tagged.best c (omega (arith, ltb-true))) p.state)

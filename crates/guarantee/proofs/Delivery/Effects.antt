@@ -135,7 +135,7 @@ module _ {K : TagKind} {σ : Setup} {b : Board} {c k : ℕ} (d : Delivery K σ b
   reply_kind e = rw e at (d.ok.tagged.frame c k d.c_m d.k_n)
 
   pub small_of : (t : Tag) (v : ℕ) → K t v → Small t
-  small_of t v i = tag_small σ t v d.ok.shape.allowed.m_8 (d.fair.good t v i)
+  small_of t v i = tag_small σ.m t v d.ok.shape.allowed.m_8 (d.fair.good t v i)
 
   -- the frames stay of the kind K if the new one is
   pub frames_with : (f : Frame) → FrameHas K f → (j : ℕ) → j < σ.n → FrameHas K (frame_at (with_frame b c k f) c j)
