@@ -1,7 +1,7 @@
 -- The numbers of the refusals (document 01, 'Questions put before each step'; document 02): this is their table.
 use Rattle.std.specs.Prelude.{ℕ, Option, None, Some}
 use Rattle.decisions.specs.declared.refusals.Refusal.{Refusal}
-use Rattle.decisions.specs.declared.refusals.Refusal.TheVariants.{NotWellFormed, BadNodeCount, BadConsoleCount, NoSuchConsole, NoSuchNode, ConsoleIsDown, ConsoleBusy, NoFrame, NodeIsDown, TsUsedUp, NotThreeFields, NoSuchVerb, LineTooLong, NodeIsUp, ConsoleIsUp, LivesUsedUp}
+use Rattle.decisions.specs.declared.refusals.Refusal.TheVariants.{NotWellFormed, BadNodeCount, BadConsoleCount, NoSuchConsole, NoSuchNode, ConsoleIsDown, ConsoleBusy, NoFrame, NodeIsDown, TsUsedUp, NotThreeFields, NoSuchVerb, LineTooLong, NodeIsUp, ConsoleIsUp, LivesUsedUp, TooManyRecords, UnsoundRecord}
 
 abbrev pub number_of : Refusal → ℕ
 number_of NotWellFormed = 1
@@ -20,6 +20,8 @@ number_of LineTooLong = 13
 number_of NodeIsUp = 14
 number_of ConsoleIsUp = 15
 number_of LivesUsedUp = 16
+number_of TooManyRecords = 17
+number_of UnsoundRecord = 18
 
 -- 'refusal or 0'
 abbrev pub refusal_number : Option Refusal → ℕ

@@ -24,6 +24,9 @@ pub enum Refusal {
     // Restart's own (document 02, Paper 7).
     ConsoleIsUp = 15,
     LivesUsedUp = 16,
+    // Those of a shift's record (document 02, Paper 10).
+    TooManyRecords = 17,
+    UnsoundRecord = 18,
 }
 
 impl From<Refusal> for u32 {
