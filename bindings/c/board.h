@@ -53,7 +53,19 @@
  *   turn[4]  0, or 1 if the board is not well formed: then nothing is sent, and the state stays as it is
  *   turn[5], turn[6]  the frame's console and node, if one is sent; else 0
  *
- * A call returns 0 if the steps were put to the board, refused or not, or the preview or the turn was given. If `words`
+ * shift_check has no board. It checks the record of a shift: `records` are operations that consoles made, in any order, and
+ * it says whether they are in order, or which is the earliest in the list that is at fault and by which rule:
+ *
+ *   RULE_SHARED_TAG      no two writes share a tag
+ *   RULE_NO_SUCH_WRITE   each read's tag and value are those of a listed write, or tag zero with value 0
+ *   RULE_TAG_TOO_LOW     whenever one operation's end comes before another's begin, the later has no lower tag, and a
+ *                        higher one if it wrote
+ *
+ * Places grow with time, as the numbers of steps do, from 1; the end is 0 while an operation is unfinished, and then
+ * before nothing. More than 256 records are refused with 17; then with 18 a record whose end is not 0 and not after its
+ * begin, whose tag is that of no board of 8 consoles, or that is a write with ts 0. The record's own console is not judged.
+ *
+ * Another call returns 0 if the steps were put to the board, refused or not, or the preview or the turn was given. If `words`
  * is shorter than a board it returns 1, if `said` is shorter than the answers or `turn` than a turn it returns 2, if
  * `steps_len` is no multiple of STEP_WORDS it returns 3, and then nothing is written. Lengths are in words; memory
  * beyond a board, or beyond the answers, is never written. The pointers must be valid for their lengths, the lent
@@ -91,6 +103,7 @@
 #define STEP_WORDS 3
 #define TURN_WORDS 7
 #define TURN_START {0, UINT32_MAX, UINT32_MAX}
+#define NO_RECORD SIZE_MAX
 
 enum {
     STEP_FRESH,
@@ -109,6 +122,33 @@ enum {
     LINK_FRAME
 };
 
+enum {
+    RULE_SHARED_TAG = 1,
+    RULE_NO_SUCH_WRITE,
+    RULE_TAG_TOO_LOW
+};
+
+/* An operation of a shift. */
+struct shift_record {
+    uint32_t console;
+    uint32_t write; /* 0 if it read, any other number if it wrote */
+    uint32_t begin;
+    uint32_t end;
+    uint32_t ts;
+    uint32_t tag_console;
+    uint32_t life;
+    uint32_t value;
+};
+
+/* What shift_check says. */
+struct shift_verdict {
+    uint32_t refusal; /* 17, 18, or 0 */
+    uint32_t rule;    /* the rule that puts a record at fault, or 0: they are in order, or refused */
+    size_t record;    /* the place of the record at fault in the list, from 0; else 0 */
+    size_t other;     /* the record that it is against: of the first and third rule the first before it in the list with which it
+                         breaks the rule, of the second the first write of its tag, which has another value; else NO_RECORD */
+};
+
 #ifdef __cplusplus
 extern "C" {
 #endif
@@ -125,6 +165,7 @@ uint32_t board_restart(uint32_t *words, size_t words_len, uint32_t *said, size_t
 uint32_t board_preview(const uint32_t *words, size_t words_len, uint32_t *said, size_t said_len, uint32_t console, uint32_t node);
 uint32_t board_turn(const uint32_t *words, size_t words_len, uint32_t *turn, size_t turn_len, uint32_t tile_waits);
 uint32_t board_run(uint32_t *words, size_t words_len, const uint32_t *steps, size_t steps_len, uint32_t *said, size_t said_len);
+struct shift_verdict shift_check(const struct shift_record *records, size_t records_len);
 
 #ifdef __cplusplus
 }

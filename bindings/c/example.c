@@ -1,6 +1,6 @@
 /* Console 1 of 2 writes 7 on three nodes; nodes 0 and 2 are a majority, so the write finishes without node 1, which then
- * goes down and comes back. Then the same write after a restart of its console, previews, a read under release 2, and a link that
- * tiles share.
+ * goes down and comes back. Then the same write after a restart of its console, previews, a read under release 2, a link that
+ * tiles share, and the check of a shift's record.
  * Ends with 0 if every answer is the one that is written here. */
 #include "board.h"
 
@@ -119,6 +119,27 @@ static int shared(void)
     return tiles == 7 && finished == 2 ? 0 : 28;
 }
 
+/* a write of 7, and a read after it: of 7 and in order, of another value, of what was there before, of another life's tag */
+static int checked(void)
+{
+    static struct shift_record records[2] = {{1, 1, 3, 11, 1, 1, 0, 7}, {0, 0, 12, 20, 1, 1, 0, 7}};
+    struct shift_verdict verdict = shift_check(records, 2);
+    if (verdict.refusal != 0 || verdict.rule != 0 || verdict.other != NO_RECORD)
+        return 29;
+    records[1].value = 8;
+    verdict = shift_check(records, 2);
+    if (verdict.rule != RULE_NO_SUCH_WRITE || verdict.record != 1 || verdict.other != 0)
+        return 30;
+    records[1].ts = records[1].tag_console = records[1].value = 0;
+    verdict = shift_check(records, 2);
+    if (verdict.rule != RULE_TAG_TOO_LOW || verdict.record != 1 || verdict.other != 0)
+        return 31;
+    records[1] = records[0];
+    records[1].life = 1001;
+    verdict = shift_check(records, 2);
+    return verdict.refusal == 18 && verdict.rule == 0 && shift_check(records, 257).refusal == 17 ? 0 : 32;
+}
+
 int main(void)
 {
     if (board_fresh(words, BOARD_WORDS, said, ANSWER_WORDS, 3, 2) != 0 || said[0] != 1)
@@ -143,5 +164,7 @@ int main(void)
         wrong = ahead();
     if (wrong == 0)
         wrong = quiet();
-    return wrong != 0 ? wrong : shared();
+    if (wrong == 0)
+        wrong = shared();
+    return wrong != 0 ? wrong : checked();
 }

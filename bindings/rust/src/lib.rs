@@ -114,10 +114,27 @@
 //! assert_eq!((tiles, finished), (7, vec![(0, 0), (1, 7)]));
 //! # Ok::<(), Refusal>(())
 //! ```
+//!
+//! A shift's record can be checked. A read that began after a write of 7 had ended returned the value 0 from before it:
+//!
+//! ```
+//! # use hatukeno::{check_shift, Fault, Kind, Record, Refusal, Rule, Tag};
+//! let tag = Tag { ts: 1, console: 1, life: 0 };
+//! let write = Record { console: 1, kind: Kind::Write, begin: 1, end: 9, tag, value: 7 };
+//! let read = Record { console: 0, kind: Kind::Read, begin: 10, end: 18, tag, value: 7 };
+//! assert_eq!(check_shift(&[write, read])?, None);
+//!
+//! let old = Record { tag: Tag { ts: 0, console: 0, life: 0 }, value: 0, ..read };
+//! let fault = Fault { record: 1, rule: Rule::TagTooLow, other: Some(0) };
+//! assert_eq!(check_shift(&[write, old])?, Some(fault));
+//! # Ok::<(), Refusal>(())
+//! ```
 
 mod picker;
+mod shift;
 
 pub use picker::{Next, Picker};
+pub use shift::{check_shift, Fault, Kind, Record, Rule};
 
 use std::error::Error;
 use std::fmt::{self, Display, Formatter};
@@ -156,6 +173,8 @@ impl Display for Refusal {
             14 => "the node is up",
             15 => "the console is up",
             16 => "the console has no life left",
+            17 => "there are more than 256 records",
+            18 => "a record is not sound",
             _ => "for a reason of no known number",
         };
         write!(f, "refused with {}: {why}", self.0)
@@ -173,7 +192,8 @@ pub enum Release {
 
 /// A timestamp, the number of the console that chose it, and the life, from 0 to 1,000, that the console then had. Tags
 /// go by the timestamp, then by the console, then by the life.
-#[derive(Clone, Copy, Debug, PartialEq, Eq)]
+#[derive(Clone, Copy, Debug, PartialEq, Eq, Hash)]
+#[repr(C)]
 pub struct Tag {
     pub ts: u32,
     pub console: u32,

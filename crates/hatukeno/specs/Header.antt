@@ -1,10 +1,10 @@
--- What bindings/c/board.h says of the words of an answer, of a preview, of a turn and of a step in a list. Words that
+-- What bindings/c/board.h says of the words of an answer, of a preview, of a turn, of a step in a list and of a verdict. Words that
 -- changed places in definition and code would meet every contract; these lists hold them to the header.
-use Rattle.std.specs.Prelude.{ℕ, Bool, true, false, List, [], ◌∷◌, ◌≡◌, map, replicate, None, Some}
+use Rattle.std.specs.Prelude.{ℕ, Bool, true, false, List, [], ◌∷◌, ◌≡◌, map, replicate, None, Some, Ok, Err}
 use Rattle.parts.specs.declared.Tag.{Tag}
 use Rattle.parts.specs.declared.Outcome.TheVariants.{Refused, Done, Handed, Finished}
 use Rattle.std.specs.declared.cmp.Ordering.TheVariants.{Less, Equal, Greater}
-use Rattle.decisions.specs.declared.refusals.Refusal.TheVariants.{NodeIsDown, NotWellFormed}
+use Rattle.decisions.specs.declared.refusals.Refusal.TheVariants.{NodeIsDown, NotWellFormed, TooManyRecords, UnsoundRecord}
 use Rattle.board.specs.declared.Board.{Board}
 use Rattle.board.specs.Answers.{answer, answer_with, refuse}
 use Rattle.board.specs.Boards.{no_board}
@@ -13,6 +13,9 @@ use Rattle.board.specs.Steps.{begin_write}
 use Rattle.picker.specs.declared.Next.TheVariants.{Nothing, Tile, Frame}
 use Rattle.picker.specs.declared.Picker.{Picker}
 use Rattle.picker.specs.Picking.{pair, unused}
+use Rattle.shift.specs.declared.Rule.TheVariants.{SharedTag, NoSuchWrite, TagTooLow}
+use Rattle.hatukeno.specs.declared.Verdict.{Verdict}
+use Rattle.hatukeno.specs.Shifts.{verdict_of}
 use Rattle.hatukeno.specs.Calls.{answer_fields}
 use Rattle.hatukeno.specs.Previews.{preview_fields}
 use Rattle.hatukeno.specs.Lists.{step_at}
@@ -78,3 +81,30 @@ two_steps = 2 ∷ 1 ∷ 7 ∷ 3 ∷ 1 ∷ 0 ∷ []
 
 abbrev pub TwoSteps : Type 0
 TwoSteps = (b : Board) → (step_at two_steps 0 b ≡ begin_write b 1 7) × (step_at two_steps 1 b ≡ deliver b 1 0)
+
+-- refusal, rule, record and other record of a verdict
+abbrev pub verdicts : List Verdict
+verdicts =
+    map verdict_of
+    (Ok None
+    ∷ Err TooManyRecords
+    ∷ Err UnsoundRecord
+    ∷ Ok (Some (record { fault = record { place = 5; rule = SharedTag }; other = Some 4 }))
+    ∷ Ok (Some (record { fault = record { place = 5; rule = NoSuchWrite }; other = Some 0 }))
+    ∷ Ok (Some (record { fault = record { place = 5; rule = NoSuchWrite }; other = None }))
+    ∷ Ok (Some (record { fault = record { place = 5; rule = TagTooLow }; other = Some 4 }))
+    ∷ [])
+
+abbrev verdict : ℕ → ℕ → ℕ → ℕ → Verdict
+verdict refusal rule place other = record { refusal = refusal; rule = rule; place = place; other = other }
+
+unfoldable pub verdicts_in_the_header : List Verdict
+verdicts_in_the_header =
+    verdict 0 0 0 18446744073709551615
+    ∷ verdict 17 0 0 18446744073709551615
+    ∷ verdict 18 0 0 18446744073709551615
+    ∷ verdict 0 1 5 4
+    ∷ verdict 0 2 5 0
+    ∷ verdict 0 2 5 18446744073709551615
+    ∷ verdict 0 3 5 4
+    ∷ []
