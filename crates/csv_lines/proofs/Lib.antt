@@ -4,6 +4,7 @@ pub mod ReadingLaws
 pub mod FieldsLaws
 pub mod ReadingExamples
 pub mod SplittingLaws
+pub mod LinesLaws
 pub mod SplittingExamples
 pub mod SetsLaws
 pub mod WritingLaws

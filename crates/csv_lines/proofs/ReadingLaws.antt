@@ -107,7 +107,7 @@ module _ (s : List ℕ) where
 
 -- ---- how many commas, as std's `count_by` counts them
 
-count_is : (b : ℕ) (s : List ℕ) → count_of b s ≡ count_by (λ x. eqb x b) s
+pub count_is : (b : ℕ) (s : List ℕ) → count_of b s ≡ count_by (λ x. eqb x b) s
 unfolding count_of
 count_is b s = is_sum_by (count_of b) (λ x. cond (eqb x b) 1 0) refl (λ _ _. refl) s
 
@@ -159,13 +159,13 @@ module _ (s : List ℕ) where
   unfolding line_of
   line_long h = rw (lt-ltb max_line (length s) h)
 
-  pub line_few : length s ≤ max_line → (count_by (λ x. eqb x comma_byte) s ≡ 2 → ⊥) → line_of s ≡ Err NotThree
+  pub line_few : length s ≤ max_line → (count_of comma_byte s ≡ 2 → ⊥) → line_of s ≡ Err NotThree
   unfolding line_of
-  line_few h g = rw (le-ltb max_line (length s) h, count_is comma_byte s, ne_eqb (count_by (λ x. eqb x comma_byte) s) 2 g)
+  line_few h g = rw (le-ltb max_line (length s) h, ne_eqb (count_of comma_byte s) 2 g)
 
-  pub line_three : length s ≤ max_line → count_by (λ x. eqb x comma_byte) s ≡ 2 → line_of s ≡ three_of (num_of (field_of s 0)) (num_of (field_of s 1)) (num_of (field_of s 2))
+  pub line_three : length s ≤ max_line → count_of comma_byte s ≡ 2 → line_of s ≡ three_of (num_of (field_of s 0)) (num_of (field_of s 1)) (num_of (field_of s 2))
   unfolding line_of
-  line_three h g = rw (le-ltb max_line (length s) h, count_is comma_byte s, g)
+  line_three h g = rw (le-ltb max_line (length s) h, g)
 
 -- ---- what each function goes by
 

@@ -1,8 +1,8 @@
 // A line read as three numbers.
-ghost use Rattle.std.specs.Prelude.{◌≡◌, ◌==◌, count_by};
+ghost use Rattle.std.specs.Prelude.{◌≡◌};
 ghost use Rattle.std.specs.Option.{ok_or};
 ghost use Rattle.csv_lines.specs.declared.BadLine.TheVariants.{NotThree};
-ghost use Rattle.csv_lines.specs.Reading.{comma_byte, field_of, num_of, three_of, line_of};
+ghost use Rattle.csv_lines.specs.Reading.{comma_byte, count_of, field_of, num_of, three_of, line_of};
 
 use crate::BadLine;
 use crate::fields::field;
@@ -11,11 +11,12 @@ use crate::numbers::number;
 // The most bytes of a line that Paper 1's program reads; the line's end is no part of it.
 pub const MAX_LINE: usize = 64;
 
-// How many commas the line has.
-fn commas(s: &[u8]) -> usize
-    ensures { result ≡ count_by (λ x. x == comma_byte) s.now }
+// How many of the bytes are b.
+#[tactic(auto, using(crate::proofs::ReadingLaws::count_is))]
+pub fn count_of(b: u8, s: &[u8]) -> usize
+    ensures { result ≡ count_of b s.now }
 {
-    s.iter().filter(|x| **x == b',').count()
+    s.iter().filter(|x| **x == b).count()
 }
 
 // The numbers of the first three fields, if each is one.
@@ -37,7 +38,7 @@ pub fn read_line(line: &[u8]) -> Result<(u32, u32, u32), BadLine>
     if line.len() > MAX_LINE {
         return Err(BadLine::TooLong);
     }
-    if commas(line) != 2 {
+    if count_of(b',', line) != 2 {
         return Err(BadLine::NotThree);
     }
     three(line).ok_or(BadLine::NotThree)

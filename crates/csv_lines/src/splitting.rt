@@ -1,8 +1,10 @@
-// The lines of an input that comes in parts: the line so far is held in lent memory until its end is there.
+// The lines of an input: of one that is there as a whole, the first and what stands after it; of one that comes in parts,
+// the line so far, which is held in lent memory until its end is there.
 // That memory and how much of it is held are no struct: the functions are public and take any memory and any number, of
 // which a struct's invariant would refuse some.
-ghost use Rattle.std.specs.Prelude.{◌++◌, ◌≡◌, ◌≤◌, min, length, take};
-ghost use Rattle.csv_lines.specs.Splitting.{chop};
+ghost use Rattle.std.specs.Prelude.{[], ◌∷◌, ◌++◌, ◌≡◌, ◌==◌, ◌≤◌, min, length, position, take, MatchOption};
+ghost use Rattle.csv_lines.specs.Reading.{lf_byte};
+ghost use Rattle.csv_lines.specs.Splitting.{chop, lines_of};
 
 use crate::reading::MAX_LINE;
 
@@ -38,5 +40,26 @@ pub fn chopped(line: &[u8], held: usize) -> usize
     match &line[..held] {
         [.., b'\r'] => held - 1,
         _ => held,
+    }
+}
+
+// The place of the first LF.
+fn first_lf(s: &[u8]) -> Option<usize>
+    ensures { result ≡ position (λ x. x == lf_byte) s.now }
+{
+    s.iter().position(|x| *x == b'\n')
+}
+
+// The first line of the input, and what stands after it. None: there is no line.
+#[tactic(auto, using(crate::proofs::LinesLaws::first_line_laws))]
+pub fn first_line(input: &[u8]) -> Option<(&[u8], &[u8])>
+    ensures { MatchOption result (input.now ≡ []) (λ part. lines_of input.now ≡ part.0.now ∷ lines_of part.1.now) }
+{
+    if input.is_empty() {
+        return None;
+    }
+    match first_lf(input) {
+        Some(i) => Some((&input[..chopped(input, i)], &input[i + 1..])),
+        None => Some((input, &[])),
     }
 }

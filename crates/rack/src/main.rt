@@ -6,6 +6,7 @@
 ghost use Rattle.std.specs.Prelude.{◌≤◌, length};
 
 use csv_lines::splitting::HELD_BYTES;
+use programs::complaint;
 use schedule::Position;
 use schedule::chunks::{CHUNK_BYTES, OUT_BYTES, run_chunk, run_end, start};
 use std::io;
@@ -82,18 +83,10 @@ fn run<R: Read, W: Write>(input: &mut R, output: &mut W) -> Result<(), Failure> 
     rack.finish()
 }
 
-// An error's text without the number that ends it, as in 'Is a directory (os error 21)'.
-fn without_number(text: &str) -> &str {
-    text.split_once(" (os error ").map_or(text, |(why, _)| why)
-}
-
 // Says on standard error, in one line, what cannot be done and why.
 fn say(rt: &(impl Eprint + Alloc), what: &str, error: io::Error) -> io::Result<()> {
-    match format!(in rt.alloc(); "{error}") {
-        Ok(text) => {
-            let why = without_number(text.as_str());
-            eprintln!(rt; "rack: the {what}: {why}")
-        }
+    match complaint(rt, "rack", what, &error) {
+        Ok(line) => eprintln!(rt; "{line}"),
         Err(_) => eprintln!(rt; "rack: the {what}: {error}"),
     }
 }

@@ -6,6 +6,9 @@ use std::process::exit;
 /// The program for schedules, if no other is named.
 pub const RACK: &str = "crates/rack/out/rack";
 
+/// The program for records of shifts, if no other is named.
+pub const AUDIT: &str = "crates/audit/out/audit";
+
 /// Names, some of them with a word after them. Any other use ends the program with status 2.
 pub struct Arguments {
     program: &'static str,

@@ -1,0 +1,2 @@
+-- What the program holds of an input.
+pub mod Held

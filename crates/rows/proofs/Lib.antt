@@ -1,0 +1,3 @@
+-- The laws of rows.
+pub mod RowsLaws
+pub mod AuditExamples
