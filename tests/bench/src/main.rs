@@ -1,6 +1,6 @@
 //! Times the proved library beside plain Rust, which asks question 1 at every step or never, and beside itself with
-//! tags compared as before Paper 5, on the same steps; then the program that runs schedules beside plain Rust and the
-//! model, on the same schedule.
+//! tags compared as before Paper 5, on the same steps, and beside plain Rust on the same records of shifts; then the
+//! program that runs schedules beside plain Rust and the model, on the same schedule.
 //!
 //!     bench [--seed S] [--rounds N] [--lines N] [--rack PROGRAM]
 //!     bench --as-plain <SCHEDULE
@@ -15,8 +15,10 @@ mod loaded;
 mod plain;
 mod plain_lines;
 mod plain_picker;
+mod plain_shift;
 mod previews;
 mod runs;
+mod shifts;
 mod side;
 mod tables;
 mod tags;

@@ -2,6 +2,7 @@
 use crate::loaded::{Again, Before, Now};
 use crate::previews::time_previews;
 use crate::runs::{agree_under_two, damaged, made_run, Row, Run, BOARDS, DAMAGED, STEPS};
+use crate::shifts::time_shifts;
 use crate::side::{Plain, Unasked};
 use crate::tags;
 use crate::timing::{each, fresh, list, listed, medians, whole};
@@ -19,6 +20,7 @@ pub fn time_steps(seed: u64, rounds: usize) {
     time_kinds(&rows, rounds);
     time_previews(&rows, rounds);
     time_turns(seed, &rows, rounds);
+    time_shifts(rounds);
     time_runs(&runs, rounds);
     time_before(&rows, &runs, rounds);
     let deliveries = rows.iter().find(|row| row.name == "deliver").expect("the row of all deliveries");

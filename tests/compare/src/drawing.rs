@@ -1,66 +1,7 @@
 //! Schedules for the comparison: some at every edge of the rules for lines, and any number by chance, of good lines and
 //! damaged ones.
+use crate::odd::{byte, changed, field, one_of, ENDS, FAR_NUMBERS, ODD_FIELDS};
 use common::{Chance, Step};
-
-/// What a damaged line may have for a field.
-const ODD_FIELDS: [&str; 40] = [
-    "",
-    "\"\"",
-    "\"",
-    "\"\"\"",
-    "\"\"\"\"",
-    "\"1",
-    "1\"",
-    "\"\"1\"\"",
-    "\"\"1\"",
-    "\"1\"\"",
-    "1\"1",
-    "\"1\"1",
-    "1\"1\"",
-    "\"1\"\"1\"",
-    " 1",
-    "1 ",
-    " ",
-    "\" 1\"",
-    "\"1 \"",
-    " \"1\"",
-    "\"1\" ",
-    "\t1",
-    "+1",
-    "-1",
-    "-0",
-    "0x1",
-    "1.0",
-    "1e0",
-    "1_0",
-    "'1'",
-    "a",
-    "/",
-    ":",
-    "\0",
-    "1\0",
-    "\u{663}",
-    "\u{ff11}",
-    "\u{b2}",
-    "\u{a0}1",
-    "\u{feff}1",
-];
-
-/// Numbers beside the edges of 32 and 64 bits and far beyond.
-const FAR_NUMBERS: [&str; 12] = [
-    "4294967294",
-    "4294967295",
-    "4294967296",
-    "4294967297",
-    "4294967299",
-    "8589934592",
-    "9999999999",
-    "18446744073709551615",
-    "18446744073709551616",
-    "18446744073709551617",
-    "340282366920938463463374607431768211456",
-    "99999999999999999999999999999999999999999999",
-];
 
 /// Whole lines that are not three such fields, or have no known verb.
 const ODD_LINES: [&str; 26] = [
@@ -149,9 +90,6 @@ const RESTART_LINES: [&str; 15] = [
     "4294967303,1,0",
     "8,1,0",
 ];
-
-/// Ends of lines, and what is no end: nothing, a CR alone, and an LF with its CR at the wrong side.
-const ENDS: [&[u8]; 6] = [b"\n", b"\r\n", b"\r\r\n", b"", b"\r", b"\n\r"];
 
 /// A read of console 0, good if it is no longer than a line may be: it has this many bytes by the zeros in its second
 /// field.
@@ -306,15 +244,7 @@ impl Drawing<'_> {
 
     /// The line of these numbers: now and then with quotes, now and then with leading zeros.
     fn written(&mut self, numbers: [u32; 3]) -> Vec<u8> {
-        let fields = numbers.map(|number| {
-            let zeros = if self.chance.one_in(20) { self.chance.below(12) } else { 0 };
-            let digits = format!("{}{number}", "0".repeat(zeros as usize));
-            if self.chance.one_in(12) {
-                format!("\"{digits}\"")
-            } else {
-                digits
-            }
-        });
+        let fields = numbers.map(|number| field(number.into(), 12, 20, self.chance));
         fields.join(",").into_bytes()
     }
 
@@ -352,8 +282,8 @@ impl Drawing<'_> {
                 return self.of_length(length);
             }
             11 => return self.long_line(),
-            12 => return (0..self.chance.below(80)).map(|_| self.byte()).collect(),
-            _ => return self.changed(fields.join(",").into_bytes()),
+            12 => return (0..self.chance.below(80)).map(|_| byte(self.chance)).collect(),
+            _ => return changed(fields.join(",").into_bytes(), self.chance),
         }
         fields.join(",").into_bytes()
     }
@@ -379,31 +309,10 @@ impl Drawing<'_> {
             _ => 68 + self.index(6000),
         };
         match self.chance.below(3) {
-            0 => vec![self.byte(); length],
+            0 => vec![byte(self.chance); length],
             1 => b"0,1,1,".iter().copied().cycle().take(length).collect(),
             _ => self.of_length(length),
         }
-    }
-
-    /// Any byte but LF, those that lines are made of more often.
-    fn byte(&mut self) -> u8 {
-        match self.chance.below(256) as u8 {
-            b'\n' => b'\r',
-            any if self.chance.one_in(2) => any,
-            any => b"0123456789,,,,\"\" \r"[any as usize % 18],
-        }
-    }
-
-    /// The line with one byte gone, doubled, another or put in.
-    fn changed(&mut self, mut line: Vec<u8>) -> Vec<u8> {
-        let at = self.index(line.len() as u32);
-        match self.chance.below(4) {
-            0 => drop(line.remove(at)),
-            1 => line.insert(at, line[at]),
-            2 => line[at] = self.byte(),
-            _ => line.insert(at, self.byte()),
-        }
-        line
     }
 
     fn index(&mut self, n: u32) -> usize {
@@ -411,6 +320,6 @@ impl Drawing<'_> {
     }
 
     fn drawn<T: Copy>(&mut self, all: &[T]) -> T {
-        all[self.index(all.len() as u32)]
+        one_of(all, self.chance)
     }
 }

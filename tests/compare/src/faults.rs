@@ -1,26 +1,40 @@
 //! Deliberate faults, to show that the comparison can fail. Each is a misreading of a sentence of the papers, put round
 //! the model: it changes what the model is given or what it answers.
+mod audits;
 mod early;
+mod judged;
 mod lines;
 mod previews;
 mod restarts;
+mod rows;
 mod rules;
+mod shifts;
+mod sound;
 mod standing;
 mod steps;
 mod taken;
 mod turns;
 mod withdrawn;
 
+use crate::audit::{self, Report};
+use crate::audit_words::{self, Said};
 use crate::model::{Answer, Model, Preview, Step};
 use crate::picker::{Next, Picker};
+use crate::recorded::Operation;
 use crate::rules::Rules;
 use crate::schedule::{self, Line};
+use crate::shift::{self, Record};
 use crate::words::{self, Words};
+use audits::*;
 use early::*;
+use judged::Judged;
 use lines::*;
 use previews::*;
 pub use restarts::*;
+use rows::*;
 use rules::*;
+use shifts::*;
+use sound::*;
 use standing::*;
 pub use steps::*;
 pub use taken::Taken;
@@ -43,6 +57,10 @@ enum Wraps {
     Preview(fn(&mut Foreseen)),
     /// A turn of the link: it sends something else, or leaves another state.
     Turn(fn(&mut Turned)),
+    /// The check of a shift's records: it finds something else.
+    Shift(fn(&mut Judged)),
+    /// Which operations of a run are in its record, and how.
+    Listed(fn(&Operation) -> Option<Record>),
     /// The words that a board is read from: they are taken for others.
     Words(fn(&mut Words)),
     /// A fresh in a list, on the first of these boards.
@@ -55,6 +73,14 @@ enum Wraps {
     Line(fn(&mut Model, Line) -> schedule::Answer),
     /// The fields of a line of the output.
     Output(fn([u64; 7]) -> Vec<u64>),
+    /// The lines of a shift's record.
+    Rows(audit::Lines),
+    /// A line read as a row.
+    Row(audit::AsRow),
+    /// What a shift's record as rows comes to.
+    Report(fn(&[u8], Report) -> Report),
+    /// What is printed of it.
+    Said(fn(&mut Said)),
 }
 
 macro_rules! faults {
@@ -246,6 +272,132 @@ faults! {
     Turn(refused_counted),
     Turn(refused_starts_anew),
     Turn(tile_under_1),
+    // Of Paper 10: which records may be put to the rules.
+    Shift(refuses_256),
+    Shift(allows_257),
+    Shift(unsound_before_many),
+    Shift(unsound_in_turn),
+    Shift(end_at_begin),
+    Shift(end_before_begin),
+    Shift(end_0_unsound),
+    Shift(begin_0_unsound),
+    Shift(own_console_judged),
+    Shift(tag_console_8),
+    Shift(tag_console_cut),
+    Shift(tag_life_1001),
+    Shift(tag_life_cut),
+    Shift(ts_above_last),
+    Shift(last_ts_unsound),
+    Shift(zero_ts_of_console),
+    Shift(zero_ts_of_life),
+    Shift(write_of_ts_0),
+    Shift(read_of_ts_0_unsound),
+    Shift(judged_with_value),
+    // Which record is told of, by which rule, and against which other one.
+    Shift(first_in_time),
+    Shift(first_to_end),
+    Shift(last_in_list),
+    Shift(rule_before_place),
+    Shift(three_before_one),
+    Shift(three_before_two),
+    Shift(place_from_1),
+    Shift(earlier_of_two),
+    Shift(last_before),
+    Shift(last_write_of_tag),
+    Shift(other_value_untold),
+    // Which writes share a tag.
+    Shift(share_with_read),
+    Shift(share_of_one_console),
+    Shift(share_without_life),
+    Shift(share_by_ts),
+    Shift(share_with_neighbour),
+    Shift(share_of_other_value),
+    // Which reads have a write.
+    Shift(any_value_read),
+    Shift(any_zero_read),
+    Shift(source_before),
+    Shift(source_begun),
+    Shift(source_ended),
+    Shift(source_is_read),
+    Shift(source_without_life),
+    Shift(source_without_console),
+    // Which operation comes before which, and what tag it may have after it.
+    Shift(ends_at_begin),
+    Shift(end_0_before_all),
+    Shift(begins_before),
+    Shift(lost_write_ends),
+    Shift(reads_fall),
+    Shift(writes_stay),
+    Shift(reads_rise),
+    Shift(order_without_life),
+    Shift(order_without_console),
+    Shift(order_by_ts),
+    Shift(life_before_tag_console),
+    Shift(order_of_writes),
+    Shift(order_of_neighbours),
+    Shift(order_as_listed),
+    Shift(order_against_list),
+    Shift(open_reads_left_out),
+    // Of the record of a run: what stands in it of a write that is not finished.
+    Listed(lost_write_ends_at_down),
+    Listed(open_write_unlisted),
+    // Of the program audit: which lines and which rows an input has.
+    Rows(cr_kept),
+    Rows(empty_last_row),
+    Rows(very_last_cr_dropped),
+    Rows(empty_rows_dropped),
+    Rows(mark_dropped),
+    Row(row_value_before_life),
+    Row(kind_2),
+    Row(row_life_1001),
+    Row(nine_fields),
+    Row(seven_fields),
+    Row(quoted_comma_joins_none),
+    Row(quotes_refused),
+    Row(zeros_refused),
+    Row(plus_allowed),
+    Row(blanks_dropped),
+    Row(row_tag_console_cut),
+    Row(kind_before_numbers),
+    Row(life_before_kind),
+    // What an input comes to, and what is printed of it where.
+    Report(rows_from_0),
+    Report(reads_and_writes_crossed),
+    Report(rows_crossed),
+    Report(other_row_left_out),
+    Report(ended_first_crossed),
+    Report(refuses_256_rows),
+    Report(no_row_before_many),
+    Report(many_before_no_row),
+    Report(unsound_before_no_row),
+    Report(ts_0_before_end),
+    Report(too_long_at_65535),
+    Report(allows_65536),
+    Report(too_long_before_many),
+    Report(many_by_the_rest),
+    Said(status_1_not_checkable),
+    Said(fault_on_error),
+    Said(not_checkable_on_output),
+}
+
+/// The runs that can show a fault: steps of the library, records of shifts, schedules, or records as rows.
+#[derive(Clone, Copy, PartialEq, Eq)]
+pub enum Runs {
+    Steps,
+    Records,
+    Schedules,
+    Audits,
+}
+
+impl Wraps {
+    fn shown_by(self) -> Runs {
+        match self {
+            Wraps::Shift(_) | Wraps::Listed(_) => Runs::Records,
+            Wraps::Found(_) | Wraps::Line(_) | Wraps::Output(_) => Runs::Schedules,
+            Wraps::Rows(_) | Wraps::Row(_) | Wraps::Report(_) | Wraps::Said(_) => Runs::Audits,
+            _ => Runs::Steps,
+        }
+    }
 }
 
 /// The model with a fault round it, or as it is.
@@ -268,9 +420,9 @@ impl Faulty {
         self.0.is_some()
     }
 
-    /// Whether the fault is to be found by schedules; the others are by steps of the library.
-    pub fn is_of_lines(self) -> bool {
-        matches!(self.wraps(), Some(Wraps::Found(_) | Wraps::Line(_) | Wraps::Output(_)))
+    /// Whether the fault is to be found by such runs; without a fault there is something to see in all of them.
+    pub fn is_shown_by(self, runs: Runs) -> bool {
+        self.wraps().is_none_or(|wraps| wraps.shown_by() == runs)
     }
 
     pub fn step(self, board: &Model, step: Step) -> (Answer, Model) {
@@ -295,6 +447,22 @@ impl Faulty {
         match self.wraps() {
             Some(Wraps::Turn(change)) => Turned::changed(board, picker, tile_waits, change),
             _ => picker.turn(&self.taken_for(board), tile_waits),
+        }
+    }
+
+    /// The check of a shift's records.
+    pub fn check(self, records: &[Record]) -> shift::Said {
+        match self.wraps() {
+            Some(Wraps::Shift(change)) => Judged::changed(records, change),
+            _ => shift::check(records),
+        }
+    }
+
+    /// What of an operation stands in the record of its run, if anything does.
+    pub fn listed(self, operation: &Operation) -> Option<Record> {
+        match self.wraps() {
+            Some(Wraps::Listed(listed)) => listed(operation),
+            _ => operation.listed(),
         }
     }
 
@@ -353,5 +521,24 @@ impl Faulty {
             Some(Wraps::Output(fields)) => schedule::written(answers, fields),
             _ => schedule::written(answers, |fields| fields.to_vec()),
         }
+    }
+
+    /// What an input comes to that is a shift's record as rows.
+    pub fn report(self, input: &[u8]) -> Report {
+        match self.wraps() {
+            Some(Wraps::Rows(lines)) => audit::report(input, lines, audit::row),
+            Some(Wraps::Row(row)) => audit::report(input, audit::lines, row),
+            Some(Wraps::Report(change)) => change(input, Faulty::NOT.report(input)),
+            _ => audit::report(input, audit::lines, audit::row),
+        }
+    }
+
+    /// What is printed of it.
+    pub fn said(self, report: &Report) -> Said {
+        let mut said = audit_words::said(report);
+        if let Some(Wraps::Said(change)) = self.wraps() {
+            change(&mut said);
+        }
+        said
     }
 }

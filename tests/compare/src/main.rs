@@ -1,13 +1,17 @@
-//! Runs the proved library and the model beside each other, on the same steps, then the program that runs schedules and
-//! the model, on the same schedules, and stops at the first difference.
+//! Runs the proved library and the model beside each other, on the same steps and on the same records of shifts, then the program
+//! that runs schedules and the model, on the same schedules, and the program that checks a shift's record and the model, on the same
+//! records as rows, and stops at the first difference.
 //!
-//!     compare [--steps N] [--damaged N] [--lines N] [--rack PROGRAM] [--seed S] [--fault F]
-//!     compare --find-faults [--steps N] [--damaged N] [--lines N] [--rack PROGRAM] [--seed S]
+//!     compare [--steps N] [--damaged N] [--lines N] [--rack PROGRAM] [--audit PROGRAM] [--seed S] [--fault F]
+//!     compare --find-faults [--steps N] [--damaged N] [--lines N] [--rack PROGRAM] [--audit PROGRAM] [--seed S]
 //!     compare --faults
 //!     compare --as-model [--fault F] <SCHEDULE
 //!
 //! The second does so with each fault put round the model in turn, and stops at the first that is not found; the third
 //! prints the faults with their numbers; the last writes what the model answers to the schedule.
+mod audit;
+mod audit_words;
+mod audits;
 mod beside;
 mod damaged;
 mod drawing;
@@ -20,23 +24,33 @@ mod library;
 mod lives;
 mod marks;
 mod model;
+mod odd;
 mod picker;
 mod previews;
+mod processes;
 mod reads;
 mod reboots;
+mod record_lists;
+mod recorded;
 mod releases;
+mod row_edges;
+mod row_inputs;
 mod rules;
 mod runs;
 mod schedule;
 mod schedules;
 mod seen;
+mod shift;
+mod shifts;
 mod turns;
 mod words;
 
 use beside::Agreed;
-use common::arguments::{Arguments, RACK};
-use faults::{Faulty, FAULTS};
+use common::arguments::{Arguments, AUDIT, RACK};
+use faults::{Faulty, Runs, FAULTS};
 use library::Amount;
+use processes::must_be_there;
+use seen::Shows;
 use std::path::PathBuf;
 use std::process::exit;
 
@@ -45,6 +59,7 @@ struct Options {
     lines: u64,
     seed: u64,
     rack: PathBuf,
+    audit: PathBuf,
     faulty: Faulty,
     task: Task,
 }
@@ -56,12 +71,13 @@ enum Task {
     AsModel,
 }
 
-const NAMES: [&str; 9] = [
+const NAMES: [&str; 10] = [
     "--steps",
     "--damaged",
     "--lines",
     "--seed",
     "--rack",
+    "--audit",
     "--fault",
     "--find-faults",
     "--faults",
@@ -77,6 +93,7 @@ fn options() -> Options {
         lines: 200_000,
         seed: 1,
         rack: PathBuf::from(RACK),
+        audit: PathBuf::from(AUDIT),
         faulty: Faulty::NOT,
         task: Task::Compare,
     };
@@ -88,6 +105,7 @@ fn options() -> Options {
             "--lines" => options.lines = words.number(u64::MAX),
             "--seed" => options.seed = words.number(u64::MAX),
             "--rack" => options.rack = PathBuf::from(words.word()),
+            "--audit" => options.audit = PathBuf::from(words.word()),
             "--fault" => options.faulty = Faulty::numbered(words.number(FAULTS.len() as u64)),
             "--find-faults" => options.task = Task::FindFaults,
             "--faults" => options.task = Task::PrintFaults,
@@ -97,28 +115,39 @@ fn options() -> Options {
     options
 }
 
-/// A fault of lines is looked for in schedules alone, and any other in the library's steps alone.
+/// A fault is looked for in the runs that can show it, and in no others.
 fn compare(options: &Options, faulty: Faulty, prints: bool) -> Agreed {
     let seed = options.seed;
-    let by_lines = options.lines > 0 && (faulty.is_of_lines() || !faulty.is_faulty());
-    if by_lines && !options.rack.is_file() {
-        eprintln!("compare: there is no program {}; tests/program writes it", options.rack.display());
-        exit(2);
+    let by_lines = options.lines > 0 && faulty.is_shown_by(Runs::Schedules);
+    let by_rows = faulty.is_shown_by(Runs::Audits);
+    if by_lines {
+        must_be_there(&options.rack, "rack");
     }
-    if !faulty.is_of_lines() {
-        let seen = library::compare(options.amount, seed, faulty)?;
+    if by_rows {
+        must_be_there(&options.audit, "audit");
+    }
+    // Without a fault all must have been seen that is to be compared.
+    let show = |seen: &dyn Shows| {
         if prints {
             seen.print(seed);
         }
-        if !faulty.is_faulty() {
-            seen.hold()?;
+        if faulty.is_faulty() {
+            Ok(())
+        } else {
+            seen.hold()
         }
+    };
+    if faulty.is_shown_by(Runs::Steps) {
+        show(&library::compare(options.amount, seed, faulty)?)?;
+    }
+    if faulty.is_shown_by(Runs::Records) {
+        show(&shifts::compare(seed, faulty)?)?;
     }
     if by_lines {
-        let counts = schedules::compare(&options.rack, options.lines, seed, faulty)?;
-        if prints {
-            counts.print(seed);
-        }
+        show(&schedules::compare(&options.rack, options.lines, seed, faulty)?)?;
+    }
+    if by_rows {
+        show(&audits::compare(&options.audit, seed, faulty)?)?;
     }
     Ok(())
 }

@@ -210,11 +210,8 @@ impl Model {
             && self.cells.iter().all(|((c, k), frame)| self.is_cell_good(*c, *k, frame))
     }
 
-    /// Every tag has ts at most 4,000,000,000, a console number below m and a life at most 1,000; a tag with ts 0 has
-    /// console 0, life 0 and value 0.
     fn is_tag_good(&self, tag: Tag, value: u32) -> bool {
-        let (ts, console, life) = tag;
-        ts <= MAX_TS && console < u64::from(self.m) && life <= MAX_LIFE && (ts != 0 || (tag == ZERO && value == 0))
+        is_tag_good(self.m, tag, value)
     }
 
     /// Nodes beyond n are up with tag (0, 0) and value 0.
@@ -247,6 +244,13 @@ impl Model {
     fn is_waiting_good(&self, kind: Kind, x: &Console) -> bool {
         x.answered.iter().all(|k| *k < self.n) && x.answered.len() < self.majority() && (kind == Kind::Write || x.wanted == 0)
     }
+}
+
+/// For m consoles: every tag has ts at most 4,000,000,000, a console number below m and a life at most 1,000; a tag with ts 0
+/// has console 0, life 0 and value 0.
+pub fn is_tag_good(m: u32, tag: Tag, value: u32) -> bool {
+    let (ts, console, life) = tag;
+    ts <= MAX_TS && console < u64::from(m) && life <= MAX_LIFE && (ts != 0 || (tag == ZERO && value == 0))
 }
 
 /// An asking console with nothing answered has best tag (0, 0) and value 0. The mark is off while nothing is answered,

@@ -3,19 +3,15 @@ use crate::beside::{differ, Agreed};
 use crate::drawing::{edges, Drawing};
 use crate::faults::Faulty;
 use crate::model::Outcome;
+use crate::processes::{left, run, shown};
 use crate::schedule::{lines, Answer};
+use crate::seen::Shows;
 use common::Chance;
 use std::collections::BTreeMap;
 use std::io::{self, Read, Write};
 use std::path::Path;
-use std::process::{exit, ChildStdin, Command, ExitStatus, Stdio};
-use std::thread::{scope, sleep};
-use std::time::Duration;
+use std::process::Output;
 
-/// Where a schedule is left that the two differ on.
-const DIFFERENT: &str = "target/different.csv";
-/// Of a longer line only so many bytes are printed.
-const SHOWN: usize = 200;
 /// In each round that many tiny schedules; and one round in so many has a schedule of that many lines.
 const TINY: u32 = 20;
 const ROUNDS: u64 = 32;
@@ -49,8 +45,10 @@ impl Counts {
             }
         }
     }
+}
 
-    pub fn print(&self, seed: u64) {
+impl Shows for Counts {
+    fn print(&self, seed: u64) {
         let refused: u64 = self.refused.values().sum();
         let accepted = self.lines - refused;
         println!("seed {seed}: {} lines in {} schedules agree", self.lines, self.schedules);
@@ -119,70 +117,18 @@ impl Drawn<'_> {
     fn put(&mut self, schedule: &[u8]) -> Agreed {
         let answers = self.faulty.answers(schedule);
         let expected = self.faulty.written(&answers);
-        let pieces = pieces(schedule.len(), &mut self.chance);
-        let (output, status) = run(self.rack, schedule, &pieces).unwrap_or_else(|error| {
-            eprintln!("compare: {} cannot be run: {error}", self.rack.display());
-            exit(2);
-        });
-        if output != expected || !status.success() {
-            return differ(&difference(schedule, &output, &expected, self.seed, status));
+        let ended = run(self.rack, schedule, &mut self.chance);
+        if ended.stdout != expected || !ended.stderr.is_empty() || !ended.status.success() {
+            return differ(&difference(schedule, &ended, &expected, self.seed));
         }
         self.counts.add(&answers);
         Ok(())
     }
 }
 
-/// The lengths of the pieces in which an input is fed. What waits in the pipe is read together; only a short input that
-/// is fed byte by byte, now and then, is sure to be read so.
-fn pieces(length: usize, chance: &mut Chance) -> Vec<usize> {
-    let most = match chance.below(8) {
-        0 if length <= 200 => 1,
-        0 | 1 => 1 + length as u32 / 16,
-        2 => 1021,
-        3 => 5000,
-        _ => 100_000,
-    };
-    let mut pieces = Vec::new();
-    let mut left = length;
-    while left > 0 {
-        let piece = (1 + chance.below(most) as usize).min(left);
-        pieces.push(piece);
-        left -= piece;
-    }
-    pieces
-}
-
-/// What the program writes for this input. A thread feeds it, so that neither side waits for the other for ever.
-fn run(rack: &Path, input: &[u8], pieces: &[usize]) -> io::Result<(Vec<u8>, ExitStatus)> {
-    let mut child = Command::new(rack).stdin(Stdio::piped()).stdout(Stdio::piped()).spawn()?;
-    let stdin = child.stdin.take().expect("it is piped");
-    let mut stdout = child.stdout.take().expect("it is piped");
-    let mut output = Vec::new();
-    scope(|threads| {
-        threads.spawn(|| feed(stdin, input, pieces));
-        stdout.read_to_end(&mut output)
-    })?;
-    Ok((output, child.wait()?))
-}
-
-/// A program that ends before its input does is seen by its output, not here.
-fn feed(mut stdin: ChildStdin, mut input: &[u8], pieces: &[usize]) {
-    let byte_by_byte = pieces.len() == input.len();
-    for length in pieces {
-        let (piece, rest) = input.split_at(*length);
-        if stdin.write_all(piece).is_err() {
-            return;
-        }
-        if byte_by_byte {
-            sleep(Duration::from_micros(50));
-        }
-        input = rest;
-    }
-}
-
 /// The first line at which they differ. The schedule is left in a file.
-fn difference(schedule: &[u8], output: &[u8], expected: &[u8], seed: u64, status: ExitStatus) -> [String; 5] {
-    let mut program = output.split_inclusive(|byte| *byte == b'\n');
+fn difference(schedule: &[u8], ended: &Output, expected: &[u8], seed: u64) -> [String; 6] {
+    let mut program = ended.stdout.split_inclusive(|byte| *byte == b'\n');
     let mut model = expected.split_inclusive(|byte| *byte == b'\n');
     let mut number = 1;
     let (a, b) = loop {
@@ -194,26 +140,17 @@ fn difference(schedule: &[u8], output: &[u8], expected: &[u8], seed: u64, status
     };
     let wrote = |line: Option<&[u8]>| line.map_or("nothing more".to_string(), shown);
     [
-        format!("seed {seed}: a difference at line {number}; the program ended with {status}"),
+        format!(
+            "seed {seed}: a difference at line {number}; the program ended with {}",
+            ended.status
+        ),
         format!("the program wrote {}", wrote(a)),
         format!("the model wrote {}", wrote(b)),
+        format!("on standard error the program wrote {}", shown(&ended.stderr)),
         match lines(schedule).nth(number - 1) {
             Some(line) => format!("the line is {}, its end {}", shown(line.text), shown(line.end)),
             None => "there is no such line".to_string(),
         },
-        match std::fs::write(DIFFERENT, schedule) {
-            Ok(()) => format!("the schedule is in {DIFFERENT}"),
-            Err(error) => format!("the schedule cannot be written to {DIFFERENT}: {error}"),
-        },
+        left("schedule", schedule),
     ]
-}
-
-/// Bytes as text in which each can be told from the others.
-fn shown(bytes: &[u8]) -> String {
-    let text = bytes[..bytes.len().min(SHOWN)].escape_ascii();
-    if bytes.len() > SHOWN {
-        format!("'{text}' and so on, {} bytes", bytes.len())
-    } else {
-        format!("'{text}'")
-    }
 }

@@ -16,6 +16,16 @@ pub fn sizes() -> impl Iterator<Item = (u32, u32)> {
     (0..40).map(|i| (1 + i / 8, 1 + i % 8))
 }
 
+/// What is seen in runs.
+pub trait Shows {
+    fn print(&self, seed: u64);
+
+    /// Whether all was seen that is to be compared.
+    fn hold(&self) -> Agreed {
+        Ok(())
+    }
+}
+
 #[derive(Default)]
 pub struct Seen {
     pub steps: u64,
@@ -32,8 +42,8 @@ pub struct Seen {
     pub turns: Turns,
 }
 
-impl Seen {
-    pub fn print(&self, seed: u64) {
+impl Shows for Seen {
+    fn print(&self, seed: u64) {
         let Damaged { ill, by_one, well } = self.damaged;
         self.print_sizes();
         println!(
@@ -61,6 +71,39 @@ impl Seen {
         self.turns.print();
     }
 
+    fn hold(&self) -> Agreed {
+        let Late { refused, early, .. } = self.late;
+        let wrapped = [self.late.puts_wrapped, self.late.replies_wrapped];
+        let missing = if self.steps > 0 && self.node_ups().contains(&0) {
+            "node ups"
+        } else if self.steps > 0 && self.replies().contains(&0) {
+            "replies"
+        } else if self.steps > 0 && self.withdrawn().contains(&0) {
+            "withdrawn frames"
+        } else if self.steps > 0 && self.restarts().contains(&0) {
+            "restarts"
+        } else if !self.reboots.shows_all() {
+            "tags that differ in the life alone"
+        } else if !self.lives.shows_all() {
+            "the last life"
+        } else if !self.marks.shows_all() {
+            "the mark"
+        } else if !self.flips.shows_all() {
+            "flipped bits"
+        } else if !self.turns.shows_all() {
+            "turns of the link"
+        } else if [refused, early].contains(&0) {
+            "the last timestamp"
+        } else if wrapped.contains(&0) {
+            "tags whose number does not fit 32 bits"
+        } else {
+            return self.reads.hold();
+        };
+        differ(&[format!("the runs do not show {missing} in every way that is to be compared")])
+    }
+}
+
+impl Seen {
     /// A row for each size.
     fn print_sizes(&self) {
         println!("accepted deliveries of a finished operation, the same steps under both releases");
@@ -143,37 +186,5 @@ impl Seen {
             |t| t.idle_restarts,
             |t| t.waiting_restarts,
         ])
-    }
-
-    /// Whether all was seen that is to be compared.
-    pub fn hold(&self) -> Agreed {
-        let Late { refused, early, .. } = self.late;
-        let wrapped = [self.late.puts_wrapped, self.late.replies_wrapped];
-        let missing = if self.steps > 0 && self.node_ups().contains(&0) {
-            "node ups"
-        } else if self.steps > 0 && self.replies().contains(&0) {
-            "replies"
-        } else if self.steps > 0 && self.withdrawn().contains(&0) {
-            "withdrawn frames"
-        } else if self.steps > 0 && self.restarts().contains(&0) {
-            "restarts"
-        } else if !self.reboots.shows_all() {
-            "tags that differ in the life alone"
-        } else if !self.lives.shows_all() {
-            "the last life"
-        } else if !self.marks.shows_all() {
-            "the mark"
-        } else if !self.flips.shows_all() {
-            "flipped bits"
-        } else if !self.turns.shows_all() {
-            "turns of the link"
-        } else if [refused, early].contains(&0) {
-            "the last timestamp"
-        } else if wrapped.contains(&0) {
-            "tags whose number does not fit 32 bits"
-        } else {
-            return self.reads.hold();
-        };
-        differ(&[format!("the runs do not show {missing} in every way that is to be compared")])
     }
 }
