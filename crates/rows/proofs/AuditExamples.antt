@@ -57,6 +57,7 @@ examples =
     ∷ ("0,0,3,4,1,1,1001,0\n" says "line 1 is not a row: its life is above 1000") 2
     -- records that are not sound
     ∷ ("0,0,3,4,0,0,0,0\n0,0,3,3,0,0,0,0\n0,1,1,0,0,0,0,0" says "row 2 (0,0,3,3,0,0,0,0) cannot be checked (18): its end is not after its begin") 2
+    ∷ ("0,1,3,3,0,8,0,0\n" says "row 1 (0,1,3,3,0,8,0,0) cannot be checked (18): its end is not after its begin") 2
     ∷ ("0,1,3,0,0,8,0,0\n" says "row 1 (0,1,3,0,0,8,0,0) cannot be checked (18): it is a write with ts 0") 2
     ∷ ("0,1,3,0,1,65536,0,4294967295\n" says "row 1 (0,1,3,0,1,65536,0,4294967295) cannot be checked (18): its tag is that of no board of 8 consoles") 2
     ∷ []
