@@ -44,6 +44,7 @@ examples =
     ∷ ("1,1,1,0,1,1,0,7\n0,0,1,2,2,1,0,7\n" says "row 2 (0,0,1,2,2,1,0,7) is at fault by rule 2: no row wrote what it read") 1
     ∷ ("1,1,1,2,1,1,0,7\n0,0,3,4,0,0,0,0\n" says "row 2 (0,0,3,4,0,0,0,0) is at fault by rule 3: row 1 (1,1,1,2,1,1,0,7) ended before it began, and its tag is too low") 1
     ∷ ("0,0,3,4,0,0,0,0\n1,1,1,2,1,1,0,7\n" says "row 2 (1,1,1,2,1,1,0,7) is at fault by rule 3: it ended before row 1 (0,0,3,4,0,0,0,0) began, whose tag is too low") 1
+    ∷ ("1,1,1,2,1,1,0,7\n0,0,3,0,0,0,0,0\n" says "row 2 (0,0,3,0,0,0,0,0) is at fault by rule 3: row 1 (1,1,1,2,1,1,0,7) ended before it began, and its tag is too low") 1
     ∷ ("0,0,3,0,0,0,0,0\n1,1,1,2,1,1,0,7\n" says "row 2 (1,1,1,2,1,1,0,7) is at fault by rule 3: it ended before row 1 (0,0,3,0,0,0,0,0) began, whose tag is too low") 1
     -- lines that are no rows: the first is told, before any other trouble
     ∷ ("0,0,3,3,0,0,0,0\n\n0,0,3,4,0,0,0\n" says "line 2 is not a row: fields: 1, and a row has 8") 2
