@@ -1,6 +1,7 @@
 // The ways to answer a step, and an answer's refusal as a number.
 ghost use Rattle.std.specs.Prelude.{◌≡◌};
 ghost use Rattle.decisions.specs.Refusals.{refusal_number};
+ghost use Rattle.decisions.specs.declared.refusals.Refusal.{Refusal};
 ghost use Rattle.board.specs.Answers.{answer_with, answer, refuse};
 
 use crate::{Answer, Board};
@@ -32,13 +33,13 @@ impl Answer {
         Answer::accepted_with(None, outcome, board)
     }
 
-    // A step that is refused, with the board to hand back.
-    pub fn refused(refusal: Refusal, board: Board) -> Answer
-        ensures { result ≡ refuse board refusal }
+    // A step that is refused, by a refusal or by any number, with the board to hand back.
+    pub fn refused<R: Into<Refusal>>(refusal: R, board: Board) -> Answer
+        ensures { (why : Refusal) × R.converts refusal why × (result ≡ refuse board why) }
     {
         Answer {
             outcome: Outcome::Refused,
-            refusal: Some(refusal),
+            refusal: Some(refusal.into()),
             compared: None,
             board,
         }

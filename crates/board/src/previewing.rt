@@ -44,10 +44,10 @@ impl Board {
     fn in_flight_under(&self, refusal: Refusal) -> u32
         ensures { result ≡ cond (eqb (number_of refusal) 1) 0 (frames_in self.now.cells) }
     {
-        match refusal {
-            Refusal::NotWellFormed => 0,
-            _ => frames_in(&self.cells),
+        if u32::from(refusal) == u32::from(Refusal::NotWellFormed) {
+            return 0;
         }
+        frames_in(&self.cells)
     }
 
     // The frames in flight after a delivery that sends this between console c and node k.

@@ -1,7 +1,7 @@
 -- The numbers of the refusals (document 01, 'Questions put before each step'; document 02): this is their table.
-use Rattle.std.specs.Prelude.{ℕ, Option, None, Some}
+use Rattle.std.specs.Prelude.{ℕ, List, [], ◌∷◌, Option, None, Some, get_or}
 use Rattle.decisions.specs.declared.refusals.Refusal.{Refusal}
-use Rattle.decisions.specs.declared.refusals.Refusal.TheVariants.{NotWellFormed, BadNodeCount, BadConsoleCount, NoSuchConsole, NoSuchNode, ConsoleIsDown, ConsoleBusy, NoFrame, NodeIsDown, TsUsedUp, NotThreeFields, NoSuchVerb, LineTooLong, NodeIsUp, ConsoleIsUp, LivesUsedUp, TooManyRecords, UnsoundRecord}
+use Rattle.decisions.specs.declared.refusals.Refusal.TheVariants.{NotWellFormed, BadNodeCount, BadConsoleCount, NoSuchConsole, NoSuchNode, ConsoleIsDown, ConsoleBusy, NoFrame, NodeIsDown, TsUsedUp, NotThreeFields, NoSuchVerb, LineTooLong, NodeIsUp, ConsoleIsUp, LivesUsedUp, TooManyRecords, UnsoundRecord, Other}
 
 abbrev pub number_of : Refusal → ℕ
 number_of NotWellFormed = 1
@@ -22,6 +22,15 @@ number_of ConsoleIsUp = 15
 number_of LivesUsedUp = 16
 number_of TooManyRecords = 17
 number_of UnsoundRecord = 18
+number_of (Other n) = n
+
+-- the refusals at their numbers
+abbrev pub numbered : List Refusal
+numbered = Other 0 ∷ NotWellFormed ∷ BadNodeCount ∷ BadConsoleCount ∷ NoSuchConsole ∷ NoSuchNode ∷ ConsoleIsDown ∷ ConsoleBusy ∷ NoFrame ∷ NodeIsDown ∷ TsUsedUp ∷ NotThreeFields ∷ NoSuchVerb ∷ LineTooLong ∷ NodeIsUp ∷ ConsoleIsUp ∷ LivesUsedUp ∷ TooManyRecords ∷ UnsoundRecord ∷ []
+
+-- the refusal with this number
+unfoldable pub refusal_of : ℕ → Refusal
+refusal_of n = get_or numbered n (Other n)
 
 -- 'refusal or 0'
 abbrev pub refusal_number : Option Refusal → ℕ

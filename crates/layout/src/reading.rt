@@ -37,12 +37,13 @@ fn read_board(board: &mut Board, w: &[u32; BOARD_WORDS])
 pub fn decode(w: &[u32]) -> Board
     ensures { result ≡ decoded w.now }
 {
-    let mut board = Board::none();
     let Some(words) = w.first_chunk::<BOARD_WORDS>() else {
-        return board;
+        return Board::none();
     };
-    if parts_stand(words) {
-        read_board(&mut board, words);
+    if !parts_stand(words) {
+        return Board::none();
     }
+    let mut board = Board::none();
+    read_board(&mut board, words);
     board
 }

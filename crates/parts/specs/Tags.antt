@@ -1,6 +1,6 @@
 -- Tags and their order (document 01, 'The board': tag; source document 000, definition 1; the life: document 02, Paper
 -- 7), the number that stands for a tag (Paper 5), and how a reply's tag compares (Paper 3).
-use Rattle.std.specs.Prelude.{ℕ, ◌+◌, ◌*◌, Bool, cond, ◌&&◌, ◌||◌, ltb, eqb}
+use Rattle.std.specs.Prelude.{ℕ, ◌+◌, ◌*◌, Bool, true, false, cond, Option, None, Some, ◌&&◌, ◌||◌, ltb, eqb}
 use Rattle.parts.specs.declared.Tag.{Tag}
 use Rattle.std.specs.declared.cmp.Ordering.{Ordering}
 use Rattle.std.specs.declared.cmp.Ordering.TheVariants.{Less, Equal, Greater}
@@ -28,3 +28,16 @@ key t = (t.ts * 8 + t.console) * life_room + t.life
 -- 'lower, same or higher (its tag against the old best)'
 unfoldable pub compared : Tag → Tag → Ordering
 compared t best = cond (greater t best) Greater (cond (greater best t) Less Equal)
+
+-- a comparison, or none of a step that takes no reply in
+abbrev pub is_higher : Option Ordering → Bool
+is_higher None = false
+is_higher (Some Less) = false
+is_higher (Some Equal) = false
+is_higher (Some Greater) = true
+
+abbrev pub is_same : Option Ordering → Bool
+is_same None = false
+is_same (Some Less) = false
+is_same (Some Equal) = true
+is_same (Some Greater) = false

@@ -1,5 +1,6 @@
 // Whether an outcome is that of an accepted step, what it says in document 01's numbers, and a comparison as a number.
 ghost use Rattle.std.specs.Prelude.{◌≡◌};
+ghost use Rattle.parts.specs.Tags.{is_higher, is_same};
 ghost use Rattle.parts.specs.Outcomes.{accepted, outcome_number, outcome_tag, outcome_value, compared_number};
 
 use crate::{Outcome, Tag};
@@ -48,6 +49,19 @@ impl Outcome {
             _ => 0,
         }
     }
+}
+
+// Whether a reply compared higher, or the same. A step that took no reply in says neither.
+pub fn is_higher(compared: Option<Ordering>) -> bool
+    ensures { result ≡ is_higher compared }
+{
+    matches!(compared, Some(Ordering::Greater))
+}
+
+pub fn is_same(compared: Option<Ordering>) -> bool
+    ensures { result ≡ is_same compared }
+{
+    matches!(compared, Some(Ordering::Equal))
 }
 
 // The number that a comparison is written as: 0 for none, then lower, same and higher. Neither type is of this crate, so

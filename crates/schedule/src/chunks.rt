@@ -7,7 +7,7 @@ use crate::Position;
 use crate::running::Run;
 use board::Board;
 use csv_lines::LINE_BYTES;
-use csv_lines::splitting::HELD_BYTES;
+use csv_lines::splitting::{HELD_BYTES, least};
 
 // A run before its first byte: a board of one node and one console.
 #[tactic(auto, unfolding(crate::specs::Chunks::started, board::specs::Steps::fresh, decisions::specs::Questions::guarded, well_formed::specs::Clauses::nodes_allowed, well_formed::specs::Clauses::consoles_allowed))]
@@ -39,7 +39,7 @@ pub fn run_chunk(
 ) -> Position
     ensures { Consumed 0 0 s line.old out.old (take n chunk.now) result line.new out.new }
 {
-    let consumed = n.min(CHUNK_BYTES);
+    let consumed = least(n, CHUNK_BYTES);
     let mut run = Run::new(s, line, out);
     run.take(&chunk[..consumed]);
     Position {
@@ -57,11 +57,12 @@ pub fn run_chunk(
 pub fn run_end(s: Position, line: &[u8; HELD_BYTES], out: &mut [u8; OUT_BYTES]) -> usize
     ensures { (result ≤ length out.new) × (result ≡ length (last_text (session_of s line.now))) × (out.new ≡ sets out.old 0 (last_text (session_of s line.now))) }
 {
+    if s.held == 0 {
+        return 0;
+    }
     let mut held = *line;
     let mut run = Run::new(s, &mut held, out);
     let n = run.held;
-    if n > 0 {
-        run.answer(n);
-    }
+    run.answer(n);
     run.wrote
 }

@@ -7,7 +7,7 @@ ghost use Rattle.schedule.specs.Running.{HasRoom, NoLf, session_in, Answered, To
 
 use crate::Position;
 use crate::effects::{answer_to, output_of};
-use csv_lines::splitting::{HELD_BYTES, chopped, hold};
+use csv_lines::splitting::{HELD_BYTES, chopped, hold, least};
 use csv_lines::writing::put_line;
 use memchr::memchr;
 use verbs::Checked;
@@ -40,7 +40,7 @@ impl<'a> Run<'a> {
             checked: Checked::new(position.board),
             number: position.number,
             line,
-            held: position.held.min(HELD_BYTES),
+            held: least(position.held, HELD_BYTES),
             out,
             wrote: 0,
         }

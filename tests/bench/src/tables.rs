@@ -118,8 +118,8 @@ fn time_before(rows: &[Row], runs: &[Run], rounds: usize) {
 fn time_tags(deliveries: &[(Words, Step)], rounds: usize) {
     let pairs: Vec<_> = deliveries.iter().filter_map(|(words, step)| tags::pair(words, *step)).collect();
     let sides: [&dyn Fn() -> f64; 4] = [
-        &|| tags::time(&pairs, tags::by_number),
-        &|| tags::time(&pairs, tags::by_order),
+        &|| tags::time(&pairs, &tags::BY_NUMBER),
+        &|| tags::time(&pairs, &tags::BY_ORDER),
         &|| each::<Now>(deliveries),
         &|| each::<Before>(deliveries),
     ];

@@ -6,22 +6,44 @@ use crate::plain::tag_in;
 use common::words::{self, Words};
 use common::{State, Step};
 use hatukeno::Tag;
+use std::cmp::Ordering;
 use std::hint::black_box;
 
 /// How often the tags are gone through, so that the clock is not what is measured.
 const TIMES: usize = 100;
 
-/// Whether the first tag is greater.
-pub type IsGreater = fn(Tag, Tag) -> bool;
+/// A way to compare tags: whether a put's is greater than its node's, and how a reply's compares with best.
+pub struct Way {
+    is_greater: fn(Tag, Tag) -> bool,
+    compared: fn(Tag, Tag) -> Ordering,
+}
+
+pub const BY_NUMBER: Way = Way {
+    is_greater: is_number_greater,
+    compared: number_compared,
+};
+
+pub const BY_ORDER: Way = Way {
+    is_greater: is_later,
+    compared: order_compared,
+};
+
+fn number(t: Tag) -> u64 {
+    (u64::from(t.ts) * 8 + u64::from(t.console)) * 65536 + u64::from(t.life)
+}
 
 #[inline(never)]
-pub fn by_number(a: Tag, b: Tag) -> bool {
-    let number = |t: Tag| (u64::from(t.ts) * 8 + u64::from(t.console)) * 65536 + u64::from(t.life);
+fn is_number_greater(a: Tag, b: Tag) -> bool {
     number(a) > number(b)
 }
 
 #[inline(never)]
-pub fn by_order(a: Tag, b: Tag) -> bool {
+fn number_compared(a: Tag, b: Tag) -> Ordering {
+    number(a).cmp(&number(b))
+}
+
+#[inline(never)]
+fn is_later(a: Tag, b: Tag) -> bool {
     if a.ts > b.ts {
         return true;
     }
@@ -34,8 +56,18 @@ pub fn by_order(a: Tag, b: Tag) -> bool {
     a.life > b.life
 }
 
-/// Two tags that a delivery compares, and whether it does so for a reply: then also the other way round, if the first
-/// is not greater.
+#[inline(never)]
+fn order_compared(a: Tag, b: Tag) -> Ordering {
+    if is_later(a, b) {
+        return Ordering::Greater;
+    }
+    if is_later(b, a) {
+        return Ordering::Less;
+    }
+    Ordering::Equal
+}
+
+/// Two tags that a delivery compares, and whether it does so for a reply.
 pub struct Pair {
     tag: Tag,
     with: Tag,
@@ -66,16 +98,16 @@ pub fn pair(w: &Words, step: Step) -> Option<Pair> {
 }
 
 /// Nanoseconds to compare all these tags once, with a call for each comparison.
-pub fn time(pairs: &[Pair], is_greater: IsGreater) -> f64 {
-    let is_greater = black_box(is_greater);
+pub fn time(pairs: &[Pair], way: &Way) -> f64 {
+    let way = black_box(way);
     let time = clock::nanoseconds(|| {
         for _ in 0..TIMES {
             for Pair { tag, with, is_reply } in black_box(pairs) {
-                let is_first = is_greater(*tag, *with);
-                if *is_reply && !is_first {
-                    black_box(is_greater(*with, *tag));
+                if *is_reply {
+                    black_box((way.compared)(*tag, *with));
+                } else {
+                    black_box((way.is_greater)(*tag, *with));
                 }
-                black_box(is_first);
             }
         }
     });
