@@ -94,10 +94,9 @@ fn refusal_at(list: &[Refusal], number: u32) -> Refusal
 }
 
 impl From<u32> for Refusal {
-    ghost from_gives = { λ number refusal. refusal ≡ refusal_of number };
+    ghost from_gives = { λ number refusal. (refusal ≡ refusal_of number) × (number_of refusal ≡ number) };
 
     // The refusal that is written as this number.
-    #[tactic(auto, unfolding(crate::specs::Refusals::refusal_of))]
     fn from(number: u32) -> Refusal {
         refusal_at(&NUMBERED, number)
     }
