@@ -1,2 +1,2 @@
 -- Laws of the definitions, which the proofs of functions cite; those stand in the folders beside.
-mod RefusalsLaws
+pub mod RefusalsLaws

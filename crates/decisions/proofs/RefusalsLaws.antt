@@ -3,7 +3,6 @@ use Rattle.std.specs.Prelude.{ℕ, zero, suc, ◌≡◌, refl}
 use Rattle.decisions.specs.Refusals.{number_of, refusal_of}
 
 pub number_back : (n : ℕ) → number_of (refusal_of n) ≡ n
-unfolding refusal_of
 number_back zero = refl
 number_back (suc zero) = refl
 number_back (suc (suc zero)) = refl

@@ -29,7 +29,7 @@ abbrev pub numbered : List Refusal
 numbered = Other 0 ∷ NotWellFormed ∷ BadNodeCount ∷ BadConsoleCount ∷ NoSuchConsole ∷ NoSuchNode ∷ ConsoleIsDown ∷ ConsoleBusy ∷ NoFrame ∷ NodeIsDown ∷ TsUsedUp ∷ NotThreeFields ∷ NoSuchVerb ∷ LineTooLong ∷ NodeIsUp ∷ ConsoleIsUp ∷ LivesUsedUp ∷ TooManyRecords ∷ UnsoundRecord ∷ []
 
 -- the refusal with this number
-unfoldable pub refusal_of : ℕ → Refusal
+abbrev pub refusal_of : ℕ → Refusal
 refusal_of n = get_or numbered n (Other n)
 
 -- 'refusal or 0'

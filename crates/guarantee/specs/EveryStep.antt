@@ -1,9 +1,9 @@
 -- What is claimed of every step on every board, reached by a run or not: demand 1, and that a well-formed board stays so.
 -- proofs/Refusals.antt and proofs/KeepsFormed.antt prove it.
-use Rattle.std.specs.Prelude.{ℕ, true, false, List, [], ◌∷◌, ◌≡◌}
+use Rattle.std.specs.Prelude.{ℕ, true, false, List, [], ◌∷◌, ◌≡◌, None, Some}
 use Rattle.parts.specs.declared.Setup.{Setup}
 use Rattle.parts.specs.Outcomes.{accepted}
-use Rattle.decisions.specs.Refusals.{refusal_number}
+use Rattle.decisions.specs.Refusals.{refusal_number, refusal_of}
 use Rattle.board.specs.declared.Board.{Board}
 use Rattle.board.specs.declared.Answer.{Answer}
 use Rattle.board.specs.Boards.{fresh_board}
@@ -33,6 +33,9 @@ pub record Numbered (b : Board) (numbers : List ℕ) (a : Answer) : Type 0 where
   -- 'every step .. ends with a result or one of the numbered refusals'
   pub refused_number : accepted a.outcome ≡ false → Any (λ r. refusal_number a.refusal ≡ r) numbers
   pub accepted_number : accepted a.outcome ≡ true → refusal_number a.refusal ≡ 0
+  -- by its own case, and by none (never by Other, which has any number)
+  pub refused_case : accepted a.outcome ≡ false → Any (λ r. a.refusal ≡ Some (refusal_of r)) numbers
+  pub accepted_case : accepted a.outcome ≡ true → a.refusal ≡ None
 
 -- 'every step on every input, a mangled board included'; of fresh, which is given no board, below
 abbrev pub Demand1 : Type 0

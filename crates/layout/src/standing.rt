@@ -19,9 +19,8 @@ fn all_stand<T: InWords<N>, const N: usize, const K: usize>(each: &[[u32; N]; K]
     )
 }
 
-// Whether the setup and each part stands in the words. Where the setup does not the parts are not asked: words that are no
-// board's mostly show it there (docs/LOOK-BACK.md). By && throughout it proves, and a step of whole runs took 1.08 of what
-// it takes by &.
+// Whether the setup and each part stands in the words. Where the setup does not, the parts are not asked. By && throughout
+// it proves, and a step of whole runs took 1.08 of what it takes by &.
 pub(crate) fn parts_stand(w: &[u32; BOARD_WORDS]) -> bool
     ensures { result ≡ parts_stand w.now }
 {

@@ -39,6 +39,10 @@ any_each h (link e es) (here p) = here (h _ _ e p)
 any_each h (link e es) (there p) = there (any_each h es p)
 any_each {A = A} {R = R} {P = P} {Q = Q} h no_more x4 = elim x4 [ ]
 
+pub any_imp : {A : Type 0} {P Q : A → Type 0} {l : List A} → ((x : A) → P x → Q x) → Any P l → Any Q l
+any_imp h (here p) = here (h _ p)
+any_imp h (there p) = there (any_imp h p)
+
 pub any_all : {A : Type 0} {P Q : A → Type 0} {l : List A} → All P l → Any Q l → Any (λ x. P x × Q x) l
 any_all (p also ps) (here q) = here (p, q)
 any_all (p also ps) (there q) = there (any_all ps q)
