@@ -24,7 +24,7 @@ number_of TooManyRecords = 17
 number_of UnsoundRecord = 18
 number_of (Other n) = n
 
--- the refusals at their numbers
+-- the refusals in the order of their numbers, from 0 on, which is none of the papers'
 abbrev pub numbered : List Refusal
 numbered = Other 0 ∷ NotWellFormed ∷ BadNodeCount ∷ BadConsoleCount ∷ NoSuchConsole ∷ NoSuchNode ∷ ConsoleIsDown ∷ ConsoleBusy ∷ NoFrame ∷ NodeIsDown ∷ TsUsedUp ∷ NotThreeFields ∷ NoSuchVerb ∷ LineTooLong ∷ NodeIsUp ∷ ConsoleIsUp ∷ LivesUsedUp ∷ TooManyRecords ∷ UnsoundRecord ∷ []
 

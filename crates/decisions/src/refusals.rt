@@ -61,7 +61,7 @@ impl From<Refusal> for u32 {
     }
 }
 
-// The refusals at their numbers.
+// The refusals in the order of their numbers, from 0 on, which is none of the papers'.
 const NUMBERED: [Refusal; 19] = [
     Refusal::Other(0),
     Refusal::NotWellFormed,

@@ -33,7 +33,7 @@ pub record Numbered (b : Board) (numbers : List ℕ) (a : Answer) : Type 0 where
   -- 'every step .. ends with a result or one of the numbered refusals'
   pub refused_number : accepted a.outcome ≡ false → Any (λ r. refusal_number a.refusal ≡ r) numbers
   pub accepted_number : accepted a.outcome ≡ true → refusal_number a.refusal ≡ 0
-  -- by its own case, and by none (never by Other, which has any number)
+  -- and the refusal is the one of that number in the papers, none where the step is accepted
   pub refused_case : accepted a.outcome ≡ false → Any (λ r. a.refusal ≡ Some (refusal_of r)) numbers
   pub accepted_case : accepted a.outcome ≡ true → a.refusal ≡ None
 

@@ -2,5 +2,6 @@
 pub mod FiniteLaws
 pub mod AnsweredLaws
 pub mod TagsLaws
+pub mod ComparedLaws
 pub mod PartsLaws
 pub mod SizesLaws

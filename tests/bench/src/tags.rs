@@ -19,13 +19,13 @@ pub struct Way {
 }
 
 pub const BY_NUMBER: Way = Way {
-    is_greater: is_number_greater,
-    compared: number_compared,
+    is_greater: is_greater_by_number,
+    compared: compared_by_number,
 };
 
 pub const BY_ORDER: Way = Way {
-    is_greater: is_later,
-    compared: order_compared,
+    is_greater: is_greater_by_order,
+    compared: compared_by_order,
 };
 
 fn number(t: Tag) -> u64 {
@@ -33,17 +33,17 @@ fn number(t: Tag) -> u64 {
 }
 
 #[inline(never)]
-fn is_number_greater(a: Tag, b: Tag) -> bool {
+fn is_greater_by_number(a: Tag, b: Tag) -> bool {
     number(a) > number(b)
 }
 
 #[inline(never)]
-fn number_compared(a: Tag, b: Tag) -> Ordering {
+fn compared_by_number(a: Tag, b: Tag) -> Ordering {
     number(a).cmp(&number(b))
 }
 
 #[inline(never)]
-fn is_later(a: Tag, b: Tag) -> bool {
+fn is_greater_by_order(a: Tag, b: Tag) -> bool {
     if a.ts > b.ts {
         return true;
     }
@@ -57,11 +57,11 @@ fn is_later(a: Tag, b: Tag) -> bool {
 }
 
 #[inline(never)]
-fn order_compared(a: Tag, b: Tag) -> Ordering {
-    if is_later(a, b) {
+fn compared_by_order(a: Tag, b: Tag) -> Ordering {
+    if is_greater_by_order(a, b) {
         return Ordering::Greater;
     }
-    if is_later(b, a) {
+    if is_greater_by_order(b, a) {
         return Ordering::Less;
     }
     Ordering::Equal
