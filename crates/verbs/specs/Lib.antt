@@ -1,2 +1,3 @@
--- The steps by their numbers.
+-- The steps by their numbers, and what is claimed of their refusals.
 pub mod Verbs
+pub mod Named
